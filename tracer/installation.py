@@ -1,5 +1,7 @@
 """Where the tracer stands, its headers and what is built: in the repository, or where `./install` has put it; and the
 version."""
+from __future__ import annotations
+
 import functools
 import os
 
@@ -22,6 +24,6 @@ HEADERS = os.path.join(HERE, "include", "")
 
 
 @functools.lru_cache
-def is_own(file):
+def is_own(file: str) -> bool:
     """Whether this is a header of the tracer."""
     return os.path.abspath(file).startswith(HEADERS)

@@ -46,8 +46,9 @@ void __spbags_not_seen(const char *__note);
 void __spbags_hide(void);
 void __spbags_show(void);
 
-/* Assembly outside of functions, or that is a whole function, stands at this place of the source. */
-void __spbags_asm_outside(const char *__place);
+/* Assembly outside of functions, or that is a whole function, stands at this place of the source. Its text is null if it
+   has operands. */
+void __spbags_asm_outside(const char *__place, const char *__text);
 
 /* What stands before the body of a parallel, single or master region of OpenMP, and before a loop with simd: `for (__spbags_body(KIND);
    __spbags_goes_on();)`. */

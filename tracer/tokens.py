@@ -1,8 +1,11 @@
 """The tokens of a preprocessed source in C or C++, and what can be told of statements and calls by them alone; and the
 source without what its strings hold, for steps that read it as a text."""
+from __future__ import annotations
+
 import functools
 import itertools
 import re
+from collections.abc import Iterable, Iterator
 
 TOKEN = re.compile(
     r"(?P<marker>^\#[^\n]*\n)"
@@ -20,7 +23,7 @@ PARTNERS = {")": "(", "]": "[", "}": "{"}
 DIGRAPHS = {"<%": "{", "%>": "}", "<:": "[", ":>": "]"}
 # It begins with one of few signs, which are found quickly.
 QUOTE_OR_DIGRAPH = re.compile(r"[\"'<%:](?:(?<=[\"'])|(?<=<)%|(?<=%)>|(?<=<):(?!:[^:>])|(?<=:)>)")
-BRACKET, BRACKET_OR_MARK = re.compile(r"[()\[\]{}]"), re.compile(r"[()\[\]{},:]")
+BRACKET = re.compile(r"[()\[\]{}]")
 LITERAL = re.compile(r"\"(?:\\.|[^\"\\\n])*\"|'(?:\\.|[^'\\\n])*'")
 RAW = re.compile(r"\"(?P<delimiter>[^()\\\s]{0,16})\((?s:.*?)\)(?P=delimiter)\"")
 # What stands before the mark of a raw string, and before one inside of a number.
@@ -29,10 +32,15 @@ IN_NUMBER = re.compile(r"(?<![\w$.'])\.?[0-9][\w.']*\Z")
 CONTROLS = {"if", "for", "while", "switch", "_Cilk_for"}
 
 
+TYPE_CHECKING = False
+if TYPE_CHECKING:
+    from typing import Any
+
+
 class Refused(Exception):
     """What can't be rewritten, and why."""
 
-    def __init__(self, token, why):
+    def __init__(self, token: Token, why: str) -> None:
         super().__init__(why)
         self.token = token
 
@@ -40,27 +48,28 @@ class Refused(Exception):
 class Token:
     __slots__ = ("kind", "text", "start", "file", "line", "system", "end", "partner", "around")
 
-    def __init__(self, kind, text, start, file, line, system):
+    def __init__(self, kind: str, text: str, start: int, file: str, line: int, system: bool) -> None:
         self.kind, self.text, self.start, self.file, self.line = kind, DIGRAPHS.get(text, text), start, file, line
         self.system = system  # whether it stands in a header of the system
         self.end = start + len(text)
-        self.partner = None   # of a bracket: the index of the other one
-        self.around = None    # the index of the innermost bracket around it
+        self.partner: Any = None  # of a bracket: the index of the other one, or None
+        self.around: Any = None   # the index of the innermost bracket around it, or None
 
-    def marker(self, flags=""):
+    def marker(self, flags: str = "") -> str:
         """Puts what follows on this token's line of the program."""
         return f"\n# {self.line} {self.file}{flags}\n"
 
-    def place(self):
+    def place(self) -> str:
         return f"{self.file[1:-1]}:{self.line}"
 
 
-def tokens_of(text, parts=None):
+def tokens_of(text: str, parts: Iterable[tuple[int, int]] | None = None) -> list[Token]:
     """The tokens of C, each with its line of the program; of these parts of the text alone, each of which begins with a
     line that names a file."""
-    tokens, file, line, system = [], '"?"', 1, False
+    tokens: list[Token] = []
+    file, line, system = '"?"', 1, False
     for match in itertools.chain.from_iterable(TOKEN.finditer(text, *part) for part in parts or [(0, len(text))]):
-        kind, found = match.lastgroup, match.group()
+        kind, found = match.lastgroup or "", match.group()
         if kind == "marker":
             numbered = LINE_MARKER.match(found)
             line = int(numbered[1]) if numbered else line + 1
@@ -75,7 +84,7 @@ def tokens_of(text, parts=None):
     return tokens
 
 
-def literal_at(text, at):
+def literal_at(text: str, at: int) -> re.Match[str] | None:
     """The string or character that this mark begins, or None: it may separate digits, or stand in a directive."""
     if text[at] == "'" and IN_NUMBER.search(text, max(at - 40, 0), at):
         return None
@@ -83,7 +92,7 @@ def literal_at(text, at):
 
 
 @functools.lru_cache(1)
-def blanked(text):
+def blanked(text: str) -> str:
     """The text with spaces in place of what strings and characters hold, and with brackets in place of digraphs. It has
     the same places and lines."""
     made, done, mark = [], 0, QUOTE_OR_DIGRAPH.search(text)
@@ -101,7 +110,7 @@ def blanked(text):
     return "".join(made) + text[done:]
 
 
-def without(text, pattern):
+def without(text: str, pattern: re.Pattern[str]) -> str:
     """The text without what this matches outside of strings."""
     made, done = [], 0
     for found in pattern.finditer(blanked(text)):
@@ -110,7 +119,7 @@ def without(text, pattern):
     return "".join(made) + text[done:]
 
 
-def after_bracket(bare, opening):
+def after_bracket(bare: str, opening: int) -> int | None:
     """The place in a blanked text behind the bracket that closes this one, or None."""
     depth = 0
     for found in BRACKET.finditer(bare, opening):
@@ -120,19 +129,8 @@ def after_bracket(bare, opening):
     return None
 
 
-def parts_between(bare, first, end, mark):
-    """Where the parts of a blanked text begin and end between such marks, commas or colons, outside of brackets."""
-    found, depth = [], 0
-    for letter in BRACKET_OR_MARK.finditer(bare, first, end):
-        depth += (letter[0] in PARTNERS.values()) - (letter[0] in PARTNERS)
-        if letter[0] == mark and depth == 0:
-            found.append((first, letter.start()))
-            first = letter.end()
-    return [*found, (first, end)]
-
-
-def match_brackets(tokens):
-    opened = []
+def match_brackets(tokens: list[Token]) -> None:
+    opened: list[int] = []
     for at, token in enumerate(tokens):
         if token.kind == "mark" and token.text in PARTNERS:
             if opened and tokens[opened[-1]].text == PARTNERS[token.text]:
@@ -143,7 +141,7 @@ def match_brackets(tokens):
             opened.append(at)
 
 
-def ends_label(tokens, colon):
+def ends_label(tokens: list[Token], colon: int) -> bool:
     """Whether this colon ends a label, and isn't the second half of `? :`."""
     before = colon - 1
     if tokens[before].text == "default":
@@ -157,12 +155,12 @@ def ends_label(tokens, colon):
     return False
 
 
-def is_in_block(tokens, at):
+def is_in_block(tokens: list[Token], at: int) -> bool:
     around = tokens[at].around
     return around is not None and tokens[around].text == "{"
 
 
-def statement_start(tokens, spawn):
+def statement_start(tokens: list[Token], spawn: int) -> int:
     """The index of the first token of the statement in which this spawn stands."""
     first = spawn
     while first > 0:
@@ -180,7 +178,7 @@ def statement_start(tokens, spawn):
     return first
 
 
-def after_postfixes(tokens, at):
+def after_postfixes(tokens: list[Token], at: int) -> tuple[int, int | None]:
     """The end of the operators `(..)`, `[..]`, `.x` and `->x` from here on, and the last of them."""
     last = None
     while at < len(tokens):
@@ -192,7 +190,7 @@ def after_postfixes(tokens, at):
     return at, last
 
 
-def call_after(tokens, before):
+def call_after(tokens: list[Token], before: int) -> int | None:
     """The parenthesis that opens the arguments of the call after this token, where a semicolon ends it; or None."""
     first = tokens[before + 1]
     if first.text == "(" and first.partner is not None:
@@ -205,7 +203,7 @@ def call_after(tokens, before):
     return last if last is not None and tokens[last].text == "(" and tokens[end].text == ";" else None
 
 
-def after_angles(tokens, at):
+def after_angles(tokens: list[Token], at: int) -> int | None:
     """The token behind the template's arguments that begin here, or None where none do."""
     deep = 0
     while at < len(tokens) and tokens[at].text not in (";", "{", "}", ")", "]"):
@@ -217,7 +215,7 @@ def after_angles(tokens, at):
     return None
 
 
-def outside(tokens, first, end):
+def outside(tokens: list[Token], first: int, end: int) -> Iterator[int]:
     """The indexes of those of these tokens that stand in no brackets, and in no template's arguments."""
     at = first
     while at < end:
@@ -228,19 +226,19 @@ def outside(tokens, first, end):
             at = tokens[at].partner + 1 if tokens[at].text in ("(", "[", "{") and tokens[at].partner else at + 1
 
 
-def own_words(tokens, first, name):
+def own_words(tokens: list[Token], first: int, name: int) -> list[Token]:
     """The tokens of a declaration that say of the variable itself, and not of what it points to, how it is."""
     direct = list(outside(tokens, first, name))
     behind = max((at for at in direct if tokens[at].text == "*"), default=first)
     return [tokens[at] for at in direct if at >= behind]
 
 
-def own_constants(tokens, first, name):
+def own_constants(tokens: list[Token], first: int, name: int) -> list[Token]:
     """The words by which such a variable is constant: no hook sees the read of one."""
     return [token for token in own_words(tokens, first, name) if token.text == "const"]
 
 
-def piece(text, first, last, without=()):
+def piece(text: str, first: Token, last: Token, without: Iterable[Token] = ()) -> str:
     """The program's text from one token to another, on its own lines, with space in place of some tokens."""
     start, found = first.start, text[first.start:last.end]
     for token in without:
@@ -248,7 +246,7 @@ def piece(text, first, last, without=()):
     return first.marker() + found
 
 
-def arguments_of(tokens, opening):
+def arguments_of(tokens: list[Token], opening: int) -> list[tuple[int, int]]:
     """The first and last index of each argument."""
     arguments, first = [], opening + 1
     for at in range(opening + 1, tokens[opening].partner + 1):
@@ -259,7 +257,7 @@ def arguments_of(tokens, opening):
     return arguments
 
 
-def is_lvalue(tokens, first, end):
+def is_lvalue(tokens: list[Token], first: int, end: int) -> bool:
     """Whether these tokens name memory, as `*a[i].x` does; otherwise they declare a variable."""
     if tokens[first].text in ("*", "("):
         return True

@@ -1,6 +1,9 @@
 """Attributes in a preprocessed source by which a function would be put into its caller, or its accesses would have no
 hooks: one that does nothing stands in their place."""
+from __future__ import annotations
+
 import re
+from collections.abc import Iterator
 
 from compile.line_markers import Files, has_raw_strings
 from installation import is_own
@@ -22,7 +25,7 @@ FROM_PRAGMA = re.compile(rf"(\b(?:gnu|clang)\s*::\s*)?\b(?:{'|'.join(sorted(INLI
                          r"(?:\s*\((?:[^()]|\([^()]*\))*\))?")
 
 
-def without_pragmas(text):
+def without_pragmas(text: str) -> str:
     """The source in which no pragma gives such an attribute, but one that does nothing."""
     made, done = [], 0
     for found in PRAGMA.finditer(blanked(text)) if PRAGMA.search(text) else ():
@@ -33,7 +36,7 @@ def without_pragmas(text):
     return "".join(made) + text[done:]
 
 
-def opening_around(bare, at):
+def opening_around(bare: str, at: int) -> int | None:
     """The place of the bracket that stands open at a place, or None where it isn't near."""
     depth = 0
     for found in reversed(list(BRACKET.finditer(bare, max(at - NEAR, 0), at))):
@@ -46,21 +49,23 @@ def opening_around(bare, at):
     return None
 
 
-def is_in_attribute(bare, at):
+def is_in_attribute(bare: str, at: int) -> bool:
     """Whether this stands in `__attribute__((..))` or `[[..]]`."""
     opening = opening_around(bare, at)
-    before = bare[max(opening - NEAR, 0):opening].rstrip() if opening is not None else ""
+    if opening is None:
+        return False
+    before = bare[max(opening - NEAR, 0):opening].rstrip()
     return before.endswith("[") and bare[opening] == "[" or \
         before.endswith("(") and bare[opening] == "(" and before[:-1].rstrip().endswith(("__attribute__", "__attribute"))
 
 
-def end_of_arguments(bare, at):
+def end_of_arguments(bare: str, at: int) -> int:
     """The end of the brackets behind a word that ends here, if there are any."""
     opening = at + len(bare[at:at + NEAR]) - len(bare[at:at + NEAR].lstrip())
     return after_bracket(bare, opening) or at if bare.startswith("(", opening) else at
 
 
-def words_in(text):
+def words_in(text: str) -> Iterator[re.Match[str]]:
     """Each of these words."""
     for stem in STEM.finditer(text):
         word = WORD.match(text, stem.start()) or WORD.match(text, stem.start() - len("__"))
@@ -68,13 +73,13 @@ def words_in(text):
             yield word
 
 
-def near(text, at, is_whole):
+def near(text: str, at: int, is_whole: bool) -> tuple[str, int]:
     """The text without what is in strings, or as much of it as is near, and where that begins."""
     begin = 0 if is_whole else text.rfind("\n", 0, max(at - NEAR, 0)) + 1
     return blanked(text if is_whole else text[begin:at + NEAR]), begin
 
 
-def without(text):
+def without(text: str) -> str:
     """The source without these attributes."""
     text, made, done = without_pragmas(text), [], 0
     files, is_whole = Files(text), has_raw_strings(text)

@@ -1,47 +1,70 @@
 """The objects of the hooks and of the detector, which are made once for all links."""
+from __future__ import annotations
+
 import functools
-import hashlib
 import os
 import re
 
+import cache
 from compile import link_inputs
-from compile.options import TRACE
-from compile.processes import run
-from installation import HERE
+from compile.compiler import Compiler
+from compile.options import TRACE, fail
+from compile.processes import run, start, status_of
+from installation import ARCHIVE, CRATES, HERE, IS_INSTALLED
 
 # What the hooks define in place of the library.
-OWN = {"malloc", "calloc", "realloc", "free", "aligned_alloc", "memalign", "valloc", "pvalloc", "posix_memalign",
-       "malloc_usable_size"}
+OWN = set("malloc calloc realloc free aligned_alloc memalign valloc pvalloc posix_memalign malloc_usable_size".split())
 # The other names that the hooks define for programs and for the detector.
 FOR_PROGRAMS = re.compile("_|GOMP_|omp_|rattle_")
-# What the objects depend on, beside the folder `hooks`.
+SOURCES = os.path.join(HERE, "hooks")
+# What the objects depend on, beside the sources.
 BESIDE = ("spbags_cilk.h", "include/spbags_inside.h", "library.table", "compile/library.py", "compile/hooks.py")
+# Proves and builds the detector's library from its crate.
+BUILD = os.path.join(CRATES, "..", "build")
+
+
+def is_built() -> bool:
+    with open(os.devnull, "rb") as nothing:
+        return status_of(start([BUILD, "inside"], [(0, nothing.fileno())])) == 0
+
+
+def detector_library() -> str:
+    """The name of the detector's library, where it is built or can be."""
+    if not (os.path.exists(ARCHIVE) if IS_INSTALLED else is_built()):
+        fail("the detector isn't built, and can't be here. With --trace this works without it: then the program only "
+             "writes traces, and spbags-run has spbags check them")
+    return ARCHIVE
 
 
 class Hooks:
     """Those of one link, in the form that its words ask for. A compiler of C++ has those of the compiler of C beside it."""
 
-    def __init__(self, compiler, folder):
+    def __init__(self, compiler: Compiler, folder: str) -> None:
         self.compiler, self.words, self.folder = compiler, compiler.words, folder
-        self.flags = ["-O2", compiler.aligned, "-fno-pie", "-fno-builtin", "-fomit-frame-pointer", "-x", "c",
-                      *(["-DSPBAGS_OPENMP"] if self.words.openmp else []),
-                      *(["-DSPBAGS_INSIDE"] if self.words.inside else []),
-                      *os.environ.get("SPBAGS_HOOKS_FLAGS", "").split()]
-        form = [*compiler.command, *(["-fopenmp"] if self.words.openmp else []), *([] if self.words.inside else [TRACE])]
-        self.object = compiler.kept.file("hooks-{}.o", self.made_of(), self.compile,
-                                         f"compiling the hooks for {' '.join(form)}, in some 20 s of processor time")
+        self.flags = ["-O2", compiler.aligned, *"-fno-pie -fno-builtin -fomit-frame-pointer -x c".split()]
+        form = list(compiler.command)
+        if self.words.openmp:
+            self.flags.append("-DSPBAGS_OPENMP")
+            form.append("-fopenmp")
+        if self.words.inside:
+            self.flags.append("-DSPBAGS_INSIDE")
+        else:
+            form.append(TRACE)
+        self.flags += os.environ.get("SPBAGS_HOOKS_FLAGS", "").split()
+        doing = f"compiling the hooks for {' '.join(form)}, in some 20 s of processor time"
+        self.object = compiler.kept.file(f"hooks-{self.digest()}.o", self.compile, doing)
 
-    def made_of(self):
-        compiler = repr((self.compiler.command, self.compiler.about)).replace("clang++", "clang").replace("g++", "gcc")
-        made_of = hashlib.sha256(repr((compiler, self.flags)).encode())
-        sources = os.path.join(HERE, "hooks")
-        for name in (*(os.path.join(sources, name) for name in sorted(os.listdir(sources))),
-                     *(os.path.join(HERE, name) for name in BESIDE)):
-            with open(name, "rb") as file:
-                made_of.update(file.read())
-        return made_of
+    def digest(self) -> str:
+        about = repr((self.compiler.command, self.compiler.about)).replace("clang++", "clang").replace("g++", "gcc")
+        files = [os.path.join(SOURCES, name) for name in sorted(os.listdir(SOURCES))]
+        return cache.digest((about, self.flags), files + [os.path.join(HERE, name) for name in BESIDE])
 
-    def compile(self):
+    def compile_source(self, name: str) -> str:
+        made = os.path.join(self.folder, name + ".o")
+        run(*self.compiler.command, *self.flags, f"-I{self.folder}", "-c", os.path.join(SOURCES, name), "-o", made)
+        return made
+
+    def compile(self) -> str:
         from concurrent.futures import ThreadPoolExecutor
 
         from compile import library
@@ -49,13 +72,11 @@ class Hooks:
         for name, text in (("library_names.h", table.declarations()), ("library_wrappers.h", table.wrappers())):
             with open(os.path.join(self.folder, name), "w", encoding="utf-8") as file:
                 file.write(text)
-        sources = os.path.join(HERE, "hooks")
-        names = [name for name in sorted(os.listdir(sources))
-                 if name.endswith(".c") and (self.words.openmp or not name.startswith("openmp_"))]
-        objects = [os.path.join(self.folder, name + ".o") for name in names]
+        names = [name for name in sorted(os.listdir(SOURCES)) if name.endswith(".c")]
+        if not self.words.openmp:
+            names = [name for name in names if not name.startswith("openmp_")]
         with ThreadPoolExecutor(len(os.sched_getaffinity(0))) as pool:
-            list(pool.map(lambda name, made: run(*self.compiler.command, *self.flags, "-I" + self.folder, "-c",
-                                                 os.path.join(sources, name), "-o", made), names, objects))
+            objects = list(pool.map(self.compile_source, names))
         made = os.path.join(self.folder, "hooks.o")
         run("ld", "-r", *objects, "-o", made)
         # What the compiler itself calls there is no call of the program. The hooks know their code by a section. And
@@ -68,25 +89,22 @@ class Hooks:
             *[f"--rename-section=.text{part}=spbags_hooks" for part in ("", ".unlikely", ".startup", ".exit")], made)
         return made
 
-    @functools.lru_cache
-    def names(self):
+    @functools.cached_property
+    def names(self) -> set[str]:
         """What the hooks define."""
         return link_inputs.names_of(self.object)
 
-    def wrapped(self):
+    @functools.cached_property
+    def wrapped(self) -> list[str]:
         """The functions of libraries that the hooks stand in for."""
-        return sorted(name.removeprefix("__wrap_") for name in self.names() if name.startswith("__wrap_"))
+        return sorted(name.removeprefix("__wrap_") for name in self.names if name.startswith("__wrap_"))
 
-    def detector(self, archive):
-        """The words that link the detector. What its compiler calls there is no call of the program."""
-        wrapped = self.wrapped()
-        with open(archive, "rb") as file:
-            made_of = hashlib.sha256(file.read() + repr(wrapped).encode())
-
-        def make():
+    def detector(self, library: str) -> str:
+        """The detector's object. What its compiler calls there is no call of the program."""
+        def make() -> str:
             made = os.path.join(self.folder, "inside.o")
             # CMake takes an archive for a part of the language, which it would link by other compilers too.
-            run("ld", "-r", "--whole-archive", archive, "-o", made)
-            run("objcopy", *[f"--redefine-sym={name}=__real_{name}" for name in wrapped], made)
+            run("ld", "-r", "--whole-archive", library, "-o", made)
+            run("objcopy", *[f"--redefine-sym={name}=__real_{name}" for name in self.wrapped], made)
             return made
-        return [self.compiler.kept.file("inside-{}.o", made_of, make), "-ldl", "-lpthread"]
+        return self.compiler.kept.file(f"inside-{cache.digest(self.wrapped, [library])}.o", make)

@@ -1,11 +1,12 @@
-#!/usr/bin/env python3
-"""What library.table says, as the hooks' wrappers in C and as a page: `library.py` prints the page, with the word `names`
-the functions' names, and with `names.h` or `wrappers.h` the headers library_names.h and library_wrappers.h."""
+"""What library.table says, as the hooks' wrappers in C."""
+from __future__ import annotations
+
 import os
 import re
-import sys
 
-TABLE = os.path.join(os.path.dirname(os.path.dirname(os.path.realpath(__file__))), "library.table")
+from installation import HERE
+
+TABLE = os.path.join(HERE, "library.table")
 WORD = re.compile(r"([^\s()]+)(?:\(([^)]*)\))?")
 PROTOTYPE = re.compile(r"(?P<result>.*?)(?P<name>\w+)\((?P<parameters>.*)\)")
 
@@ -17,43 +18,14 @@ TAGS = {"stat", "stat64", "statfs", "statfs64", "statvfs", "statvfs64", "statx",
 # The endings of the names of one function for each floating type.
 FLOATING = ("", "f", "l", "f32", "f64", "f128", "f32x", "f64x")
 
-PAGE = """\
-# Library calls that the tracer sees
-
-Nobody has to read this page: search it for a function's name. `library.py` makes it from `library.table`. `at, n` are n
-bytes from the address `at` on; `result` is what the function returns. `at, n, m, d` are m pieces of n bytes, each d
-bytes behind the one before. The other words are numbers of bytes, or addresses:
-
-- `all(s)` is a string with its zero, `some(s, n)` at most n bytes of it, and `end(s)` the address of the zero.
-- `until(s, b, n)` ends with the first byte b, or after n bytes. `alike(a, b, n)` ends with the first byte in which a
-  and b differ, with the zero, or after n bytes; `alike_by_letters` ignores case.
-- `found(s, p, m, n)` ends m bytes after p, or after n bytes if p is null. `after(s, p)` is p, or s if p is null.
-  `least(a, b)` is the lesser number.
-- `integer` and `decimal` are a number and the byte behind it. `token` and `piece` end with a byte of the set; `cut` is
-  the address of this byte, unless the string ends there. `trimmed` is where the slashes at a path's end begin.
-- Words with `_wide` are the same for wide strings, in bytes. `character` is one multibyte character, `characters` are
-  at most so many, and `wide_characters` those whose multibyte characters fill at most so many bytes. `written(r, n)` is
-  r and the end, where that has room.
-- `strings of format` are what the conversions of printf read and, with `%n`, write. `fields of format` are what those
-  of scanf store. `pieces at n, m` are m bytes, which the n pieces at this place hold together.
-- `bits` are those of a set of files, `all_options` an array of long options, `net_address` an address of that family,
-  and `linked` the neighbour of a list's entry.
-- `state(f)` is what functions such as f keep inside: a variable of the tracer stands for it. `lock of f` is held then.
-- `order of s` is a write of s under its own lock, with `SPBAGS_STREAMS`.
-- `Shares` has what the manual page says of state that calls share.
-
-The [tracer](README.md) sees the reads of a comparison function of `qsort` or `bsearch` when they happen. It doesn't
-record constants, which nothing writes. Every other function of a library that a program calls is one that nothing is
-known of: `spbags-run` counts its calls.
-"""
-
 
 class Function:
     """A row of the table."""
 
-    def __init__(self, line):
+    def __init__(self, line: str) -> None:
         prototype, reads, writes, others, *shared = (field.strip() for field in line.split("|"))
         found = PROTOTYPE.fullmatch(prototype)
+        assert found, prototype
         self.prototype, self.result, self.name = prototype, found["result"].strip(), found["name"]
         self.parameters = found["parameters"]
         self.reads, self.writes = items_of(reads), items_of(writes)
@@ -63,7 +35,7 @@ class Function:
         # What the function holds inside while it touches these.
         self.lock = next((item[0].removeprefix(LOCK) for item in self.reads if item[0].startswith(LOCK)), None)
 
-    def arguments(self):
+    def arguments(self) -> list[str]:
         """The parameters' names; a pointer to a function has its own in brackets."""
         names = []
         for parameter in split_at(",", self.parameters) if self.parameters != "void" else ():
@@ -71,11 +43,11 @@ class Function:
             names.append(pointer[1] if pointer else re.findall(r"\w+|\.\.\.", parameter)[-1])
         return names
 
-    def declared(self, name):
+    def declared(self, name: str) -> str:
         space = "" if self.result.endswith("*") else " "
         return f"{self.result}{space}{name}({self.parameters})"
 
-    def notes(self, name, after):
+    def notes(self, name: str, after: bool) -> list[str]:
         """The block of the hooks' calls before the function, or after it."""
         made = [note_of(kind, item, "__wrap_" + name) for kind, items in (("READ", self.reads), ("WRITE", self.writes))
                 for item in items if not item[0].startswith(LOCK) and is_after(item) == after]
@@ -84,10 +56,10 @@ class Function:
                     f"leave_guard((uintptr_t)state({self.lock}));"]
         return ["    if (doing.tracing) {", *("        " + note for note in made), "    }"] if made else []
 
-    def takes_list(self):
+    def takes_list(self) -> bool:
         return any(item[0].startswith(("strings of ", "fields of ")) for item in self.reads + self.writes)
 
-    def wrapper(self, name):
+    def wrapper(self, name: str) -> str:
         """The function that is called instead of the one of that name."""
         arguments, real, begin, end = self.arguments(), name, [], []
         takes_over = arguments[-1:] == ["list"]
@@ -108,12 +80,12 @@ class Function:
                           *self.notes(name, True), *end, *answer, "}", ""])
 
 
-def is_after(item):
+def is_after(item: list[str]) -> bool:
     """Whether what is touched is known after the call alone."""
     return item[0].startswith("fields of ") or bool(re.search(r"\bresult\b", " ".join(item)))
 
 
-def note_of(kind, item, self_name):
+def note_of(kind: str, item: list[str], self_name: str) -> str:
     """The hooks' call for one item of a row."""
     words = item[0].split()
     if words[0] == "strings":
@@ -129,12 +101,12 @@ def note_of(kind, item, self_name):
     return f"NOTE_{kind}({item[0]}, {item[1]}, {self_name});"
 
 
-def narrow(words):
+def narrow(words: list[str]) -> str:
     """The format in bytes."""
     return f"NARROW({words[-1]})" if words[2:3] == ["wide"] else words[-1]
 
 
-def split_at(mark, text):
+def split_at(mark: str, text: str) -> list[str]:
     """The parts between the marks that stand in no bracket."""
     parts, depth = [""], 0
     for letter in text:
@@ -146,22 +118,25 @@ def split_at(mark, text):
     return [part.strip() for part in parts]
 
 
-def with_endings(word):
+def with_endings(word: str) -> list[str]:
     """The names that a word with @ stands for."""
     return [word.replace("@", ending) for ending in FLOATING] if "@" in word else [word]
 
 
-def items_of(field):
+def items_of(field: str) -> list[list[str]]:
     return [split_at(",", item) for item in split_at(";", field) if item]
 
 
 class Section:
     """What stands below a heading of the table: rows, or words behind a sign."""
 
-    def __init__(self, title):
-        self.title, self.functions, self.words, self.shared = title, [], {"=": [], "+": []}, {}
+    def __init__(self, title: str) -> None:
+        self.title = title
+        self.functions: list[Function] = []
+        self.words: dict[str, list[str]] = {"=": [], "+": []}
+        self.shared: dict[str, list[str]] = {}
 
-    def add(self, line):
+    def add(self, line: str) -> None:
         if line[:2] in ("= ", "+ "):
             for word, shared in WORD.findall(line[2:]):
                 self.words[line[0]].append(word)
@@ -169,17 +144,8 @@ class Section:
         else:
             self.functions.append(Function(line))
 
-    def page(self):
-        lines = [f"## {self.title}", ""]
-        if self.functions:
-            lines += ["| Function | Reads | Writes | Shares |", "|---|---|---|---|", *map(row, self.functions), ""]
-        import textwrap
-        words = ", ".join(f"`{word}`" + "".join(f" ({shared})" for shared in self.shared.get(word, ()))
-                          for sign in "=+" for word in sorted(self.words[sign]))
-        return "\n".join([*lines, *textwrap.wrap(words, 120)]).rstrip() + "\n"
 
-
-def silent():
+def silent() -> set[str]:
     """The functions that touch no memory that the program shares."""
     with open(TABLE, encoding="utf-8") as file:
         return {name for line in file if line.startswith("+ ") for word, _ in WORD.findall(line[2:])
@@ -187,8 +153,8 @@ def silent():
 
 
 class Table:
-    def __init__(self):
-        self.sections = []
+    def __init__(self) -> None:
+        self.sections: list[Section] = []
         with open(TABLE, encoding="utf-8") as file:
             for line in file.read().splitlines():
                 if line.startswith("## "):
@@ -198,21 +164,21 @@ class Table:
         # Those that the hooks have by hand.
         self.by_hand = self.words("=")
 
-    def words(self, sign):
+    def words(self, sign: str) -> list[str]:
         return [word for section in self.sections for word in section.words[sign]]
 
-    def shared(self):
+    def shared(self) -> dict[str, list[str]]:
         """What each function shares by its manual page."""
         found = {word: shared for section in self.sections for word, shared in section.shared.items()}
         return found | {name: function.shared for function in self.functions() for name in function.names if function.shared}
 
-    def functions(self):
+    def functions(self) -> list[Function]:
         return [function for section in self.sections for function in section.functions]
 
-    def names(self):
+    def names(self) -> list[str]:
         return [name for function in self.functions() for name in function.names] + self.by_hand
 
-    def declarations(self):
+    def declarations(self) -> str:
         """The real functions, which the hooks' own calls go to as well. A library may lack some."""
         lines = []
         for function in self.functions():
@@ -222,26 +188,5 @@ class Table:
                           f"#define {name}{brackets} __real_{name}{brackets.replace('...', '__VA_ARGS__')}"]
         return "\n".join(lines) + "\n"
 
-    def wrappers(self):
+    def wrappers(self) -> str:
         return "\n".join(function.wrapper(name) for function in self.functions() for name in function.names)
-
-    def page(self):
-        return "\n".join([PAGE, *(section.page() for section in self.sections)])
-
-
-def row(function):
-    names = ", ".join(f"`{name}`" for name in function.names[1:])
-    cells = ("; ".join(f"`{', '.join(item)}`" for item in items) for items in (function.reads, function.writes))
-    others = "; also " + names if names else ""
-    whole = f"| `{function.prototype}`{others} | {' | '.join(cells)} | {' '.join(function.shared)} |"
-    return re.sub(r"\|  (?=\|)", "| ", whole)
-
-
-def main(words):
-    table = Table()
-    prints = {"names": lambda: "\n".join(table.names()), "names.h": table.declarations, "wrappers.h": table.wrappers}
-    print(prints[words[0]]() if words else table.page(), end="")
-
-
-if __name__ == "__main__":
-    main(sys.argv[1:])

@@ -1,5 +1,8 @@
 """The files that a preprocessed source is made of, by the lines that name them."""
+from __future__ import annotations
+
 import re
+from collections.abc import Iterator
 from bisect import bisect_right
 
 RAW = re.compile(r'R"[^()\\\s"]{0,16}\(')
@@ -8,28 +11,41 @@ MARKER = re.compile(r'\n#(?:line)? *(\d+) *"((?:\\.|[^"\\\n])*)"([ 0-9]*)(?=\n)'
 
 
 class Files:
-    def __init__(self, text):
+    def __init__(self, text: str) -> None:
         self.text = text
-        self.starts, self.lines, self.names, self.flags = [0], [2], ["?"], [()]
+        self.starts, self.lines, self.names = [0], [2], ["?"]
+        self.flags: list[list[str]] = [[]]
         for marker in markers(text):
             self.starts.append(marker.start())
             self.lines.append(int(marker[1]))
             self.names.append(marker[2])
             self.flags.append(marker[3].split())
 
-    def at(self, place):
+    def at(self, place: int) -> tuple[str, bool]:
         """The file, and whether it is a header of the system."""
         number = bisect_right(self.starts, place) - 1
         return self.names[number], "3" in self.flags[number]
 
-    def place(self, place):
+    def place(self, place: int) -> tuple[str, int]:
         """The file and the line."""
         number = bisect_right(self.starts, place) - 1
         return self.names[number], self.lines[number] + self.text.count("\n", self.starts[number], place) - 1
 
-    def own(self):
+    def names_file(self, place: int) -> bool:
+        """Whether such a line begins here."""
+        number = bisect_right(self.starts, place) - 1
+        return number > 0 and self.starts[number] == place
+
+    def parts(self) -> Iterator[tuple[int, int, bool]]:
+        """Where each part begins, with the line that names its file, and where it ends; and whether that is a header of
+        the system."""
+        for start, end, flags in zip(self.starts[1:], [*self.starts[2:], len(self.text)], self.flags[1:]):
+            yield start, end, "3" in flags
+
+    def own(self) -> Iterator[tuple[int, int]]:
         """Where the parts begin and end that stand in no header of the system, nor in what one includes."""
-        around, begin = [], 0
+        around: list[bool] = []
+        begin = 0
         for start, flags in zip(self.starts, self.flags):
             was_system = any(around)
             if "1" in flags:
@@ -44,12 +60,12 @@ class Files:
             yield begin, len(self.text)
 
 
-def has_raw_strings(text):
+def has_raw_strings(text: str) -> bool:
     """Whether there may be some. They may hold whole lines."""
     return bool(RAW.search(text))
 
 
-def markers(text):
+def markers(text: str) -> Iterator[re.Match[str]]:
     """The places of these lines are those in the text."""
     found = MARKER.finditer(f"\n{text}\n")
     if not has_raw_strings(text):

@@ -1,14 +1,15 @@
 """Links what spbags-cc has compiled with the hooks and the detector."""
+from __future__ import annotations
+
 import os
 import re
 import sys
 
-from compile import detector
 from compile import link_inputs
 from compile import shared_libraries
 from compile.options import NAME, TRACE, Words, fail, say
 from compile.compiler import COMPILERS, Compiler, named_compiler
-from compile.hooks import OWN, Hooks
+from compile.hooks import OWN, Hooks, detector_library
 from installation import ARCHIVE
 from compile.processes import Folder, answer, heard, run
 
@@ -16,13 +17,13 @@ from compile.processes import Folder, answer, heard, run
 class Link:
     """A link of these objects, by the names of their sources, and of what else the command line names."""
 
-    def __init__(self, compiler, objects, folder):
+    def __init__(self, compiler: Compiler, objects: dict[str, str], folder: str) -> None:
         self.compiler, self.words, self.folder = compiler, compiler.words, folder
         self.command = [*compiler.command, *self.words.compiling]
         self.items = [objects.get(item, item) for item in self.words.linking]
         self.output = self.words.output or "a.out"
 
-    def make(self):
+    def make(self) -> None:
         if self.words.relocatable:
             self.make_object()
         elif self.words.shared:
@@ -30,9 +31,9 @@ class Link:
         else:
             self.make_program()
 
-    def looked(self, items):
+    def looked(self, items: list[str]) -> tuple[list[str], list[link_inputs.Part] | None]:
         """The words of a link with the objects of shared libraries in their place, and what the linker takes by them."""
-        libraries = shared_libraries.Libraries(self.folder, run, fail)
+        libraries = shared_libraries.Libraries(self.folder)
         parts = link_inputs.parts_of([*self.command, "-no-pie", *items], self.folder)
         for part in parts or []:
             if part.is_shared and shared_libraries.has_objects(part.file):
@@ -43,16 +44,16 @@ class Link:
         return items, parts
 
     @staticmethod
-    def refuse(found, wrapped):
-        faults = found.faults(set(wrapped))
+    def refuse(found: link_inputs.Linked, hooks: Hooks) -> None:
+        faults = found.faults(set(hooks.wrapped))
         if faults:
             print("\n".join(f"{NAME}: {line}" for line in faults), file=sys.stderr)
             sys.exit(1)
 
-    def stubs(self, found, hooks):
+    def stubs(self, found: link_inputs.Linked, hooks: Hooks) -> list[str]:
         """The words that have calls of unknown functions counted."""
         from compile import library
-        unknown = found.unknown(library.silent(), hooks.names().union(hooks.wrapped()))
+        unknown = found.unknown(library.silent(), hooks.names.union(hooks.wrapped))
         virtual = found.virtual()
         if not unknown and not virtual:
             return []
@@ -62,16 +63,17 @@ class Link:
         run("as", text, "-o", made)
         return [made, *["-Wl,--wrap=" + function.name for function in unknown]]
 
-    def make_program(self):
-        archive = detector.archive(fail) if self.words.inside else None
+    def make_program(self) -> None:
+        library = detector_library() if self.words.inside else None
         # What the compiler itself puts in place of a call, as of fabs, is here a call of the library.
         items, parts = self.looked([*self.items, "-lm"])
         found = link_inputs.Linked(parts or [])
-        self.words.openmp = self.words.openmp or found.asks_for_openmp()
+        if found.asks_for_openmp():
+            self.words.openmp = self.words.openmp or ["-fopenmp"]
         hooks = Hooks(self.compiler, self.folder)
-        self.refuse(found, hooks.wrapped())
-        own = [*self.stubs(found, hooks), *link_inputs.wrapping(found, hooks.wrapped(), self.folder), *items, hooks.object,
-               *(hooks.detector(archive) if archive else [])]
+        self.refuse(found, hooks)
+        own = [*self.stubs(found, hooks), *link_inputs.wrapping(found, hooks.wrapped, self.folder), *items, hooks.object,
+               *([hooks.detector(library), "-ldl", "-lpthread"] if library else [])]
         status, said = heard([*self.command, "-no-pie", *own, "-o", self.output], 2)
         sys.stderr.write(said)
         explain(said)
@@ -81,15 +83,15 @@ class Link:
         if status != 0:
             sys.exit(1)
 
-    def make_library(self):
+    def make_library(self) -> None:
         """A shared library, for which the tracer's functions are those of the program."""
         link = [*self.command, "-shared", *self.items]
         parts = link_inputs.parts_of(link, self.folder) or []
-        self.refuse(link_inputs.Linked(parts), Hooks(self.compiler, self.folder).wrapped())
+        self.refuse(link_inputs.Linked(parts), Hooks(self.compiler, self.folder))
         run(*link, "-Wl,-z,now,--unresolved-symbols=ignore-all", "-o", self.output)
-        shared_libraries.keep(self.output, parts, self.folder, run)
+        shared_libraries.keep(self.output, parts, self.folder)
 
-    def make_object(self):
+    def make_object(self) -> None:
         """One object of several."""
         link = [*self.command, "-r", *self.items]
         found = link_inputs.Linked(link_inputs.parts_of(link, self.folder) or [])
@@ -100,7 +102,7 @@ class Link:
         run(*link, "-o", self.output)
 
 
-def explain(errors):
+def explain(errors: str) -> None:
     """What is wrong where a link fails, in the tracer's words."""
     own = sorted(OWN & set(re.findall("multiple definition of [`']([a-z_]+)'", errors)))
     if re.search("multiple definition of [`']operator delete", errors):
@@ -114,19 +116,21 @@ def explain(errors):
              f"give it another name, as with -D{own[0]}=own_{own[0]}")
 
 
-def has_openmp(compiler):
+def has_openmp(compiler: Compiler) -> bool:
     return answer(*compiler.command, "-fsyntax-only", "-include", "omp.h", "-xc", os.devnull)[0] == 0
 
 
-def compile_hooks():
+def compile_hooks() -> None:
     """Makes ahead what links share, in each form that the compilers here allow, or the one that the environment names.
     Prints the files' names."""
     import itertools
     import shutil
 
     from compile import plugin
-    commands = [named_compiler()] if named_compiler() else [words for words in COMPILERS if shutil.which(*words)]
-    for command, options, more in itertools.product(commands, ([], ["-fopenmp"]), ([], [TRACE])):
+    named = named_compiler()
+    forms: tuple[tuple[list[str], list[str]], ...] = (([], []), ([], [TRACE]), (["-fopenmp"], []), (["-fopenmp"], [TRACE]))
+    commands = [named] if named else [words for words in COMPILERS if shutil.which(words[0])]
+    for command, (options, more) in itertools.product(commands, forms):
         compiler = Compiler(Words([*options, *more]), command)
         lacks = plugin.lacks(compiler.command, compiler.is_clang)
         if lacks and compiler.is_clang and not named_compiler():
@@ -141,5 +145,5 @@ def compile_hooks():
             if not options and not more:
                 made.append(compiler.plugin(folder))
             if compiler.words.inside and os.path.exists(ARCHIVE):
-                made += hooks.detector(ARCHIVE)[:1]
+                made.append(hooks.detector(ARCHIVE))
             print(*made, sep="\n", flush=True)

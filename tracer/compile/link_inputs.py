@@ -1,12 +1,19 @@
 """What goes into a link: which of its files spbags-cc compiled, and which functions nothing is known of."""
+from __future__ import annotations
+
 import functools
 import os
 import re
+from collections.abc import Iterable, Iterator
 from collections import namedtuple
 
 from compile.compiler import MARK
 from compile.processes import answer, run
 from compile.symbols import CODE, UNDEFINED, WEAK_CODE, members_of, opened, symbols_of
+
+TYPE_CHECKING = False
+if TYPE_CHECKING:
+    from compile.symbols import Bytes
 
 # The libraries of the C compiler itself.
 SYSTEM = re.compile(r"(?:lib(?:c|m|mvec|pthread|dl|rt|util|resolv|crypt|nsl|anl|stdc\+\+|stdc\+\+fs|supc\+\+|gcc|"
@@ -29,50 +36,51 @@ Unknown = namedtuple("Unknown", "name shown library always")
 class Part:
     """An object of the link, by itself or as a member of an archive, or a shared library."""
 
-    def __init__(self, file, member, is_shared, place):
+    def __init__(self, file: str, member: str | None, is_shared: bool, place: int) -> None:
         self.file, self.member, self.is_shared, self.place = file, member, is_shared, place
-        self.defined, self.wanted = {}, set()
+        self.defined: dict[str, str] = {}
+        self.wanted: set[str] = set()
         self.is_system = False
 
-    def is_traced(self):
+    def is_traced(self) -> bool:
         return MARK in self.wanted
 
-    def name(self):
+    def name(self) -> str:
         return f"{self.file}({self.member})" if self.member else self.file
 
-    def title(self):
+    def title(self) -> str:
         """Its name in a report: that by which a program finds a library."""
         said = answer("readelf", "-d", self.file)[1] if self.is_shared else ""
         named = re.search(r"\(SONAME\).*\[(.*)\]", said)
         return named[1] if named else os.path.basename(self.file)
 
-    def is_for_lto(self):
+    def is_for_lto(self) -> bool:
         """Whether the linker is to compile it."""
         return any(data.find(LTO) >= 0 for data in self.texts())
 
-    def texts(self):
+    def texts(self) -> list[Bytes]:
         """The bytes of the object; an archive may have several members of this name."""
         if not self.member:
             return [opened(self.file)]
         return [data for name, data in members_of(self.file) if name == self.member]
 
-    def add(self, name, kind):
+    def add(self, name: str, kind: str) -> None:
         if kind == UNDEFINED:
             self.wanted.add(name)
         else:
             self.defined[name] = kind
 
-    def functions(self):
+    def functions(self) -> set[str]:
         return {name for name, kind in self.defined.items() if kind in FUNCTIONS}
 
-    def is_taken_for(self, name, other):
+    def is_taken_for(self, name: str, other: Part) -> bool:
         """Whether the linker takes this function and not the other's, if it takes one: the first, or the one that isn't
         weak."""
         kinds = self.defined[name] + other.defined[name]
         return kinds == CODE + WEAK_CODE or kinds == 2 * WEAK_CODE and self.place < other.place
 
 
-def kind_of_elf(file):
+def kind_of_elf(file: str) -> int | None:
     """OBJECT, SHARED, or None for what is no file of that form."""
     try:
         with open(file, "rb") as read:
@@ -82,12 +90,12 @@ def kind_of_elf(file):
     return head[16] if head[:4] == b"\x7fELF" and len(head) == 18 and head[16] in (OBJECT, SHARED) else None
 
 
-def parts_of(link, folder):
+def parts_of(link: list[str], folder: str) -> list[Part] | None:
     """What the linker takes where it links by this command, or None where it can't: the link itself will say why."""
     status, said = answer(*link, "-Wl,-t,-t,-S,--unresolved-symbols=ignore-all", "-o", os.path.join(folder, "looked"))
     if status != 0:
         return None
-    parts = {}
+    parts: dict[tuple[str, str | None], Part] = {}
     for line in said.splitlines():
         member = MEMBER.fullmatch(line)
         key = (member[1], member[2]) if member else (line, None)
@@ -101,49 +109,51 @@ def parts_of(link, folder):
 
 
 @functools.lru_cache
-def folders_of(compiler):
+def folders_of(compiler: str) -> list[str]:
     """Where the compiler's own libraries are."""
     _, said = answer(compiler, "-print-search-dirs")
     found = re.search("^libraries: =?(.*)$", said, re.MULTILINE)
     return [os.path.realpath(name) for name in found[1].split(":")] if found else []
 
 
-def is_in(file, folders):
+def is_in(file: str, folders: list[str]) -> bool:
     return os.path.dirname(os.path.realpath(file)) in folders or os.path.realpath(os.path.dirname(file)) in folders
 
 
-def names_of(object_name):
+def names_of(object_name: str) -> set[str]:
     """What an object defines."""
     return {name for name, kind in symbols_of(opened(object_name)) if kind != UNDEFINED}
 
 
-def read_symbols(parts):
+def read_symbols(parts: dict[tuple[str, str | None], Part]) -> None:
     for file in dict.fromkeys(file for file, _ in parts):
         is_object = (file, None) in parts
-        for member, data in [(None, opened(file))] if is_object else members_of(file):
+        members: Iterable[tuple[str | None, Bytes]] = [(None, opened(file))] if is_object else members_of(file)
+        for member, data in members:
             part = parts.get((file, member))
-            for name, kind in symbols_of(data, part.is_shared) if part else ():
-                part.add(name, kind)
+            if part:
+                for name, kind in symbols_of(data, part.is_shared):
+                    part.add(name, kind)
 
 
 class Linked:
     """The files of a link."""
 
-    def __init__(self, parts):
+    def __init__(self, parts: list[Part]) -> None:
         objects = [part for part in parts if not part.is_shared]
         self.traced = [part for part in objects if part.is_traced()]
         self.others = [part for part in objects if not part.is_traced()]
         self.libraries = [part for part in parts if part.is_shared]
         self.own = {name for part in objects for name in part.defined}
 
-    def asks_for_openmp(self):
+    def asks_for_openmp(self) -> bool:
         return any(OPENMP.match(name) for part in self.traced for name in part.wanted - self.own)
 
-    def faults(self, wrapped):
+    def faults(self, wrapped: set[str]) -> list[str]:
         """A line for each file that can't be traced: code that isn't seen where it would be taken for what is."""
         return [line for part in self.others if not part.is_system for line in self.faults_of(part, wrapped)]
 
-    def faults_of(self, part, wrapped):
+    def faults_of(self, part: Part, wrapped: set[str]) -> Iterator[str]:
         parallel = next((name for name in sorted(part.wanted) if PARALLEL.match(name)), None)
         if any(name.startswith("__tsan_") for name in part.wanted):
             yield f"{part.name()}: an older spbags-cc, or another compiler with -fsanitize=thread, compiled this: " \
@@ -157,7 +167,7 @@ class Linked:
         else:
             yield from self.doubles(part, wrapped)
 
-    def doubles(self, part, wrapped):
+    def doubles(self, part: Part, wrapped: set[str]) -> Iterator[str]:
         """Functions that this file has and others take for their own, or that would be taken for the library's."""
         for name in sorted(wrapped & part.functions()):
             yield f"{part.name()}: spbags-cc didn't compile this, and its {name} would be taken for the C library's: " \
@@ -168,12 +178,12 @@ class Linked:
                 yield f"{part.name()}: spbags-cc didn't compile this, and its {min(taken)} is used in place of that of " \
                       f"{other.name()}: compile it with spbags-cc, or put it after the other one"
 
-    def unknown(self, known, hooks):
+    def unknown(self, known: set[str], hooks: set[str]) -> list[Unknown]:
         """The functions that traced files call and nothing is known of. KNOWN are those of the system's libraries, and
         HOOKS those that the hooks stand in for."""
         wanted = {name for part in self.traced for name in part.wanted if "__wrap_" + name not in self.own} | {"main"}
         wanted -= (hooks - GIVES_CODE).union(*(part.defined for part in self.traced))
-        having = {}
+        having: dict[str, Part] = {}
         for part in [*self.others, *self.libraries]:
             for name in wanted & part.defined.keys():
                 having.setdefault(name, part)
@@ -183,7 +193,7 @@ class Linked:
         return [Unknown(name, text, part.title(), not part.is_system or name in GIVES_CODE)
                 for (name, part), text in zip(found, shown)]
 
-    def virtual(self):
+    def virtual(self) -> list[str]:
         """The classes of virtual functions that nothing is known of, which a program may call without a name."""
         asked = {name for part in self.traced for name in part.wanted if name.startswith("_ZTV")}
         tables = {name for part in [*self.others, *self.libraries] if not part.is_system
@@ -191,13 +201,13 @@ class Linked:
         return [name.removeprefix("vtable for ") for name in demangled(sorted(tables))]
 
 
-def demangled(names):
+def demangled(names: list[str]) -> list[str]:
     if not names:
         return []
     return answer("c++filt", *names)[1].splitlines()
 
 
-def wrapping(found, names, folder):
+def wrapping(found: Linked, names: list[str], folder: str) -> list[str]:
     """The words that have the hooks called in place of these functions of the library. One of them that the program has
     itself isn't the library's, so it is called itself, by the hooks too. What else the program calls has to be there, as
     without hooks, which alone don't want it."""
@@ -227,7 +237,7 @@ __wrap_{name}:
 """
 
 
-def stubs(unknown, virtual):
+def stubs(unknown: list[Unknown], virtual: list[str]) -> str:
     """In the assembler's language: what is called in place of each, which counts the call and goes on to it, so that
     the function finds its words and returns as without this; and the table of all, which the hooks read. Behind them
     stand the classes of virtual functions."""
@@ -242,5 +252,5 @@ def stubs(unknown, virtual):
                     '\t.section .note.GNU-stack,"",@progbits\n'])
 
 
-def quoted(text):
+def quoted(text: str) -> str:
     return text.replace("\\", "\\\\").replace('"', '\\"')

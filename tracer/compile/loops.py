@@ -3,7 +3,17 @@
 Each iteration of a loop is a child, whose body has to be a function of its own: then its variables are no other
 iteration's, and its syncs wait for its own children. gcc makes such a function of a task of OpenMP, clang of what it
 calls a captured statement, and in C++ it is a lambda. What the parent evaluates, the end and the step, comes first."""
-from tokens import CONTROLS, Refused, is_in_block, outside, own_words, piece, statement_start
+from __future__ import annotations
+
+from collections.abc import Iterable
+
+from tokens import ASSIGNMENTS, CONTROLS, Refused, Token, is_in_block, outside, own_words, piece, statement_start
+
+TYPE_CHECKING = False
+if TYPE_CHECKING:
+    from typing import Any, NoReturn
+    # What is put in place of tokens, by the first and the last; or behind one.
+    Edit = tuple[Any, ...]
 
 # What stands before a block, and before the body of a function behind its parameters.
 BEFORE_BLOCKS = {"else", "do", "try", "_Cilk_scope"}
@@ -11,27 +21,24 @@ QUALIFIERS = {"noexcept", "throw", "alignas", "__attribute__"}
 CYCLES, CHOICES = {"for", "while", "do", "_Cilk_for"}, {"switch"}
 COMPARISONS = {"<": ">", ">": "<", "<=": ">=", ">=": "<=", "!=": "!="}
 # What would end a comparison's side, since it binds less.
-LOOSER = {"&&", "||", "?", ":", ",", "&", "^", "|", "==", "!=", "=", "+=", "-=", "*=", "/=", "%=", "&=", "|=", "^=", "<<=",
-          ">>="}
+LOOSER = ASSIGNMENTS | {"&&", "||", "?", ":", ",", "&", "^", "|", "==", "!="}
 OUTLINES = {"gcc": "#pragma omp task default(shared)", "clang": "#pragma clang __debug captured"}
 # In C++, what keeps the exceptions of children until their parent waits for them.
 KEEPS = "__spbags_frame __spbags_here;"
-# gcc calls its runtime for a task, and here the hooks.
-INSTEAD_OF_TASK = '\n__asm__("GOMP_task = __spbags_task");\n'
 
 
-def entered(token):
+def entered(token: Token) -> str:
     """What begins a scope of the hooks, which ends with the block around this."""
     return ("__attribute__((cleanup(__spbags_leave), unused)) const char *__spbags_scope = "
             f'__spbags_enter({token.file[:-1]}:{token.line}");')
 
 
-def statement_end(tokens, at):
+def statement_end(tokens: list[Token], at: int) -> int:
     """The index of the last token of the statement that begins here."""
     text = tokens[at].text
     following = tokens[at + 1].text
     if text == "{":
-        return tokens[at].partner
+        return int(tokens[at].partner)
     if text == "case":
         return statement_end(tokens, next_of(tokens, at, ":") + 1)
     if following == ":" and tokens[at].kind == "word":
@@ -47,7 +54,7 @@ def statement_end(tokens, at):
     return next_of(tokens, at, ";")
 
 
-def next_of(tokens, first, text):
+def next_of(tokens: list[Token], first: int, text: str) -> int:
     """The next such token that the same bracket holds as this one."""
     around = tokens[first].around
     found = (at for at in range(first, len(tokens)) if tokens[at].text == text and tokens[at].around == around)
@@ -57,20 +64,20 @@ def next_of(tokens, first, text):
     return end
 
 
-def after_blocks(tokens, end):
+def after_blocks(tokens: list[Token], end: int) -> int:
     while tokens[end + 1].text == "catch":
         end = statement_end(tokens, end + 1)
     return end
 
 
-def function_start(tokens, at):
+def function_start(tokens: list[Token], at: int) -> int:
     """The bracket that opens the function around."""
     while tokens[at].around is not None:
         at = tokens[at].around
     return at
 
 
-def begins_function(tokens, opening):
+def begins_function(tokens: list[Token], opening: int) -> bool:
     """Whether this brace begins the body of a function or of a lambda."""
     before = before_qualifiers(tokens, opening)
     text = tokens[before].text
@@ -83,7 +90,7 @@ def begins_function(tokens, opening):
     return text == "]" or text == ")" and named.text not in CONTROLS | {"catch", "constexpr"}
 
 
-def before_qualifiers(tokens, opening):
+def before_qualifiers(tokens: list[Token], opening: int) -> int:
     """The last token before this brace, the words, the attributes and the marks of references left out."""
     before = opening - 1
     while True:
@@ -98,7 +105,7 @@ def before_qualifiers(tokens, opening):
             return before
 
 
-def is_in_inner(tokens, at, first, found):
+def is_in_inner(tokens: list[Token], at: int, first: int, found: Iterable[tuple[int, int]]) -> bool:
     """Whether one of these ranges, or a function inside of this statement, holds the token."""
     if any(start < at <= end for start, end in found):
         return True
@@ -110,16 +117,16 @@ def is_in_inner(tokens, at, first, found):
     return False
 
 
-def labels_in(tokens, first, last):
+def labels_in(tokens: list[Token], first: int, last: int) -> set[str]:
     return {tokens[at].text for at in range(first, last) if tokens[at].kind == "word" and tokens[at + 1].text == ":" and
             tokens[at - 1].text in ("{", "}", ";", ":", ")", "else", "do")}
 
 
-def jumps_in(tokens, first, last):
+def jumps_in(tokens: list[Token], first: int, last: int) -> list[tuple[int, str]]:
     return [(at, tokens[at + 1].text) for at in range(first, last) if tokens[at].text == "goto"]
 
 
-def check_entries(tokens, first, last, what):
+def check_entries(tokens: list[Token], first: int, last: int, what: str) -> None:
     """Nothing may jump into a statement."""
     labels, start = labels_in(tokens, first, last), function_start(tokens, first)
     jumps = jumps_in(tokens, start, tokens[start].partner or last)
@@ -132,7 +139,7 @@ def check_entries(tokens, first, last, what):
             raise Refused(tokens[at], f"cannot jump into a '{what}'")
 
 
-def check_exits(tokens, first, last):
+def check_exits(tokens: list[Token], first: int, last: int) -> None:
     """Nothing may leave the body of a loop but at its end."""
     cycles = [(at, statement_end(tokens, at)) for at in range(first, last) if tokens[at].text in CYCLES | CHOICES]
     for at in range(first, last):
@@ -149,7 +156,7 @@ def check_exits(tokens, first, last):
 class Loop:
     """A loop: its variable, the end that this is compared with, and the step."""
 
-    def __init__(self, text, tokens, at, language, waiting):
+    def __init__(self, text: str, tokens: list[Token], at: int, language: str, waiting: set[int]) -> None:
         self.text, self.tokens, self.at, self.language, self.waiting = text, tokens, at, language, waiting
         self.opening = at + 1
         self.closing = tokens[self.opening].partner
@@ -166,14 +173,14 @@ class Loop:
         check_exits(tokens, self.first, self.last)
         check_entries(tokens, self.first, self.last, "cilk_for")
 
-    def refuse(self, why):
+    def refuse(self, why: str) -> NoReturn:
         raise Refused(self.tokens[self.at], f"{why} in 'cilk_for'")
 
-    def direct(self, first, end):
+    def direct(self, first: int, end: int) -> set[str]:
         """Those of these tokens that stand in no brackets, and in no template's arguments."""
         return {self.tokens[at].text for at in outside(self.tokens, first, end)}
 
-    def parts(self):
+    def parts(self) -> list[tuple[int, int]]:
         """The three parts of the header, each from its first token to the one behind its last."""
         marks = [at for at in range(self.opening, self.closing)
                  if self.tokens[at].text == ";" and self.tokens[at].around == self.opening]
@@ -188,11 +195,11 @@ class Loop:
                 self.refuse(f"missing loop {what}")
         return [(first + 1, end) for first, end in zip(ends, ends[1:])]
 
-    def piece(self, first, end):
+    def piece(self, first: int, end: int) -> str:
         """A piece of the program, on its own lines; what follows is on the loop's."""
         return piece(self.text, self.tokens[first], self.tokens[end - 1]) + self.here
 
-    def declare(self, first, end):
+    def declare(self, first: int, end: int) -> None:
         sign = next((at for at in outside(self.tokens, first, end) if self.tokens[at].text == "="), None)
         if sign is None and self.language == "c++":
             sign = self.tokens[end - 1].partner
@@ -209,7 +216,7 @@ class Loop:
         self.name = self.tokens[sign - 1].text
         self.declaration = self.piece(first, end)
 
-    def compare(self, first, end):
+    def compare(self, first: int, end: int) -> None:
         if not any(token.text in COMPARISONS for token in self.tokens[first:end]):
             self.refuse("loop condition operator must be one of '<', '<=', '>', '>=', or '!='")
         if self.tokens[first].text == self.name and self.tokens[first + 1].text in COMPARISONS:
@@ -227,9 +234,9 @@ class Loop:
             self.refuse(f"loop condition may name control variable '{self.name}' only once")
         self.limit = self.piece(*limit)
 
-    def move(self, first, end):
+    def move(self, first: int, end: int) -> None:
         texts = [token.text for token in self.tokens[first:end]]
-        self.step = None
+        self.step: str | None = None
         if sorted(texts) in (sorted([self.name, "++"]), sorted([self.name, "--"])):
             self.operator, self.moved = texts[texts[0] == self.name], "".join(texts)
         elif texts[0] == self.name and texts[1] in ("+=", "-="):
@@ -246,7 +253,7 @@ class Loop:
             sign = "negative" if self.operator == "++" else "positive"
             self.refuse(f"loop increment is inconsistent with condition: expected {sign} stride")
 
-    def header(self):
+    def header(self) -> str:
         """What stands in place of the loop's own header, up to the body."""
         name, is_cplusplus = self.name, self.language == "c++"
         auto, value = ("auto", "({})") if is_cplusplus else ("__auto_type", "((void)0, ({}))")
@@ -256,12 +263,13 @@ class Loop:
         made += [f"{entered(self.tokens[self.at])} {self.keeps(self.at)} long __spbags_number = 0;",
                  f"for (; {name} {self.comparison} __spbags_end; {self.moved}, (void)0, __spbags_number++) {{"]
         made += self.lambda_header() if is_cplusplus else self.outlined_header()
-        return self.here + " ".join(made) + self.tokens[self.closing].marker()
+        closing: Token = self.tokens[self.closing]
+        return self.here + " ".join(made) + closing.marker()
 
-    def keeps(self, at):
+    def keeps(self, at: int) -> str:
         return KEEPS if at in self.waiting else ""
 
-    def outlined_header(self):
+    def outlined_header(self) -> list[str]:
         name = self.name
         kinds = f"__builtin_classify_type({name})"
         return [f'_Static_assert({kinds} != 8 && sizeof {name} <= sizeof(long), '
@@ -270,13 +278,13 @@ class Loop:
                 self.here + OUTLINES[self.language] + self.here,
                 f"{{ __typeof__({name}) {name} = (__typeof__({name}))__spbags_counter(); do"]
 
-    def lambda_header(self):
+    def lambda_header(self) -> list[str]:
         keeps = self.keeps(self.closing)
         # By the number, no narrow variable shares a unit with its copy.
         copied = f"{self.name}, __spbags_number"
         return [f"auto __spbags_body = [&, {copied}]() mutable __attribute__((noipa)) {{ {keeps} do"]
 
-    def footer(self):
+    def footer(self) -> str:
         end = "while (0); } __spbags_return(0, 0); } }"
         if self.language == "c++":
             run = "__spbags_body(); __spbags_return(&__spbags_body, sizeof __spbags_body);"
@@ -286,12 +294,12 @@ class Loop:
             end = f"while (0); }}; __spbags_iteration(0, __spbags_shown({self.name}, __spbags_number)); {run} }} }}"
         return self.here + end + self.tokens[self.last].marker()
 
-    def edits(self):
+    def edits(self) -> tuple[Edit, Edit]:
         """What is put in place of tokens, each with the first and the last, and what is put behind one."""
         return (self.at, self.closing, self.header()), (self.last, self.footer())
 
 
-def scope_edits(tokens, at):
+def scope_edits(tokens: list[Token], at: int) -> tuple[Edit, Edit]:
     first, last = at + 1, statement_end(tokens, at + 1)
     if tokens[first].text != "{":
         raise Refused(tokens[at], "expected '{' after 'cilk_scope'")

@@ -1,29 +1,33 @@
 """Rewrites the OpenMP of a preprocessed source: every loop gets the schedule `dynamic`, so that the runtime is asked for
 each iteration. What can't be traced is refused, with its file and line."""
+from __future__ import annotations
+
 import functools
 import re
+from collections.abc import Iterator
 
 from compile.line_markers import Files, has_raw_strings
 from installation import SYSTEM
-from tokens import blanked
+from tokens import LITERAL, after_bracket, blanked
 
-MARKER = re.compile(r'#(?:line)? *([0-9]+) *("(?:\\.|[^"\\])*")?')
+# A clause of a directive: its name, and where its text begins and ends.
+Clause = tuple[str, int, int]
+
 PRAGMA = re.compile(r"[ \t]*#[ \t]*pragma[ \t]+omp\b(.*)")
 PRAGMAS = re.compile("^" + PRAGMA.pattern, re.MULTILINE)
 SECTION = re.compile(r"[ \t]*#[ \t]*pragma[ \t]+omp[ \t]+section\b")
 ATTRIBUTE = re.compile(r"\[\[\s*(?:using\s+)?omp\b")
 MEANT = re.compile(PRAGMA.pattern.removeprefix(r"[ \t]*") + "|" + ATTRIBUTE.pattern)
 WORD = re.compile(r"[A-Za-z_]\w*")
-PIECE = re.compile(r"\"(?:\\.|[^\"\\\n])*\"|'(?:\\.|[^'\\\n])*'|[(){}\[\];]|[A-Za-z_]\w*|.", re.DOTALL)
+CLAUSE = re.compile(r"([A-Za-z_]\w*)(\s*\()?")
 # Of a loop: what stands before its first semicolon, and what stands between this one and the second.
 HEADER = re.compile(r"\bfor\s*\(([^;]*);([^;]*);")
 STATIC = re.compile(r"schedule\s*\((?:[\w\s,]*:)?\s*static\b")
 # In so many letters the loops of one directive stand.
 LOOPS_LENGTH = 2000
-CLOSING = {"(": ")", "[": "]", "{": "}"}
 
 # The words that a directive begins with; those that have more here can't be traced, and are called so.
-DIRECTIVES = {
+DIRECTIVES: dict[str, str | None] = {
     **dict.fromkeys(("parallel", "for", "simd", "sections", "single", "master", "masked", "task", "taskloop",
                      "taskwait", "section", "ordered", "declare", "begin", "end", "cancel", "cancellation", "depobj")),
     "target": "target", "teams": "teams", "distribute": "distribute", "loop": "loop (write `for')",
@@ -37,30 +41,19 @@ PRIVATE = {"private", "firstprivate", "lastprivate", "reduction"}
 REFUSED_CLAUSES = {"detach": "detach", "allocate": "allocate"}
 
 
-def clauses_of(text):
+def clauses_of(text: str) -> list[Clause]:
     """The clauses of a directive, each with its name, its text, and where both stand in the whole."""
-    found, at = [], 0
+    found: list[Clause] = []
+    bare, at = LITERAL.sub(lambda literal: " " * len(literal[0]), text), 0
     while True:
-        word = WORD.search(text, at)
+        word = CLAUSE.search(bare, at)
         if not word:
             return found
-        at = end_of_brackets(text, word.end()) if text[word.end():].lstrip().startswith("(") else word.end()
-        found.append((word.group(), word.start(), at))
+        at = (after_bracket(bare, word.end() - 1) or len(text)) if word[2] else word.end()
+        found.append((word[1], word.start(), at))
 
 
-def end_of_brackets(text, start):
-    """The end of what the first bracket from here on opens."""
-    depth = 0
-    for piece in PIECE.finditer(text, start):
-        depth += piece.group() in CLOSING
-        if piece.group() in CLOSING.values():
-            depth -= 1
-            if depth == 0:
-                return piece.end()
-    return len(text)
-
-
-def leading(clauses):
+def leading(clauses: list[Clause]) -> list[str]:
     """The words of the directive itself."""
     names = []
     for name, _, _ in clauses:
@@ -70,7 +63,7 @@ def leading(clauses):
     return names
 
 
-def refusal(text):
+def refusal(text: str) -> str | None:
     """What can't be traced in this directive, or None."""
     clauses = clauses_of(text)
     names = leading(clauses)
@@ -87,7 +80,7 @@ def refusal(text):
     return None
 
 
-def without(text, clause):
+def without(text: str, clause: str) -> tuple[str, str]:
     """A directive without a clause, and that clause."""
     for name, start, end in clauses_of(text):
         if name == clause:
@@ -95,7 +88,7 @@ def without(text, clause):
     return text, ""
 
 
-def filtered(text):
+def filtered(text: str) -> str:
     """A directive that says to the hooks which thread a masked region is for."""
     for name, start, end in clauses_of(text):
         if name == "filter":
@@ -104,7 +97,7 @@ def filtered(text):
     return text
 
 
-def rescheduled(text):
+def rescheduled(text: str) -> str:
     """A loop's directive with the schedule that the hooks need, whose size says what clauses it had."""
     names = {name for name, _, _ in clauses_of(text)}
     text, schedule = without(text, "schedule")
@@ -112,19 +105,19 @@ def rescheduled(text):
     return text.rstrip(" ,") + f" schedule(dynamic,{size + 16 * bool(PRIVATE & names)})"
 
 
-def sums_in_scope(text):
+def sums_in_scope(text: str) -> bool:
     """Whether a directive is a scope whose threads combine variables of their own behind it."""
     return text.split()[:1] == ["scope"] and any(
         name == "reduction" and not re.match(r"reduction\s*\(\s*task\b", text[start:end])
         for name, start, end in clauses_of(text))
 
 
-def body(kind, file, line, next_line):
+def body(kind: int, file: str, line: int, next_line: int) -> str:
     """What stands before a body, and says to the hooks where it begins and ends."""
     return f'# {line} "{file}"\nfor (__spbags_body({kind}); __spbags_goes_on();)\n# {next_line} "{file}"\n'
 
 
-def with_body(text, kind, file, line):
+def with_body(text: str, kind: int, file: str, line: int) -> str:
     """A directive whose body says to the hooks where it begins and ends."""
     return f"#pragma omp{text}\n" + body(kind, file, line, line + 1)
 
@@ -132,26 +125,27 @@ def with_body(text, kind, file, line):
 class Source:
     """A preprocessed source, whose directives are read one by one."""
 
-    def __init__(self, text, is_clang):
+    def __init__(self, text: str, is_clang: bool) -> None:
         self.text, self.files, self.has_raw_strings = text, Files(text), has_raw_strings(text)
-        self.file, self.line, self.faults, self.is_clang = "?", 1, [], is_clang
+        self.file, self.line, self.is_clang = "?", 1, is_clang
+        self.faults: list[str] = []
         # What comes next of clang's sections: the brace around them, or the first of them.
-        self.awaits = None
+        self.awaits: str | None = None
 
     @functools.cached_property
-    def bare(self):
+    def bare(self) -> str:
         """The text without what is in strings."""
         return blanked(self.text)
 
-    def matched(self, pattern, start):
+    def matched(self, pattern: re.Pattern[str], start: int) -> re.Match[str] | None:
         """What this finds at the beginning of a line, which only a raw string could hold."""
         found = pattern.match(self.text, start)
         return found if found and not (self.has_raw_strings and not pattern.match(self.bare, start)) else None
 
-    def refuse(self, why):
+    def refuse(self, why: str) -> None:
         self.faults.append(f"{self.file}:{self.line}: error: {why}")
 
-    def directive(self, text, end):
+    def directive(self, text: str, end: int) -> str:
         """What stands for a directive, whose line ends here."""
         why = refusal(text) or self.refused_nest(text, end)
         if why:
@@ -182,15 +176,15 @@ class Source:
             return with_body(text, BODIES[names[-1]], self.file, self.line)
         return f"#pragma omp{text}\n"
 
-    def refused_nest(self, text, end):
+    def refused_nest(self, text: str, end: int) -> str | None:
         """gcc knows no schedule for it."""
         is_known = self.is_clang or "for" not in leading(clauses_of(text)) or self.is_rectangular(text, end)
         return None if is_known else "collapse by gcc of loops that aren't rectangular"
 
-    def is_rectangular(self, text, end):
+    def is_rectangular(self, text: str, end: int) -> bool:
         """Whether no loop that the directive in the line before collapses names the variable of one around it."""
         collapsed = next((text[start:end] for name, start, end in clauses_of(text) if name == "collapse"), "")
-        count, variables = int("".join(re.findall("[0-9]+", collapsed)) or 1), set()
+        count, variables = int("".join(re.findall("[0-9]+", collapsed)) or 1), set[str]()
         headers = HEADER.findall(self.bare, end, end + LOOPS_LENGTH) if count > 1 else ()
         for begin, condition in headers[:count]:
             variable, _, value = begin.partition("=")
@@ -199,13 +193,13 @@ class Source:
             variables |= set(WORD.findall(variable)[-1:])
         return True
 
-    def scope(self, text):
+    def scope(self, text: str) -> str:
         """The hooks wait in place of the scope, where its threads have combined their variables."""
         text, nowait = without(text, "nowait")
         around = body(SCOPE_NOWAIT_BODY if nowait else SCOPE_BODY, self.file, self.line, self.line)
         return around + with_body(text.rstrip(" ,") + " nowait", SCOPED_BODY, self.file, self.line)
 
-    def first_section(self, line, bare):
+    def first_section(self, line: str, bare: str) -> tuple[str, str]:
         """What stands before the rest of a line, with the directive of the first section if that is left out; and the
         rest."""
         before = ""
@@ -218,17 +212,16 @@ class Source:
                 before += "\n#pragma omp section\n" + body(SECTION_BODY, self.file, self.line, self.line)
         return before, line
 
-    def rewritten(self):
+    def rewritten(self) -> str:
         made, done, found = [], 0, MEANT.search(self.text)
         while found:
             start = self.text.rfind("\n", 0, found.start()) + 1
             made.append(self.text[done:start])
-            self.file, self.line = self.files.place(start)
             done = self.rewrite_lines(made, start)
             found = MEANT.search(self.text, done)
         return "".join(made) + self.text[done:]
 
-    def rewrite_lines(self, made, start):
+    def rewrite_lines(self, made: list[str], start: int) -> int:
         """The end of this line, or where clang's sections begin here of the one in which the first of them does."""
         while start < len(self.text):
             end = self.text.find("\n", start) + 1 or len(self.text)
@@ -238,29 +231,28 @@ class Source:
                 break
         return start
 
-    def rewritten_line(self, start, end):
+    def rewritten_line(self, start: int, end: int) -> str:
         """What stands for a line."""
-        line, marker = self.text[start:end], self.matched(MARKER, start)
-        if marker:
-            self.line, self.file = int(marker[1]), marker[2][1:-1] if marker[2] else self.file
+        line = self.text[start:end]
+        if self.files.names_file(start):
             return line
+        self.file, self.line = self.files.place(start)
         pragma = self.matched(PRAGMA, start)
         before, line = self.first_section(line, self.bare[start:end]) if self.awaits else ("", line)
         if pragma:
             line = self.directive(pragma[1], end)
         elif ATTRIBUTE.search(line) and ATTRIBUTE.search(self.bare, start, end):
             self.refuse("attributes of OpenMP can't be traced: write #pragma omp")
-        self.line += 1
         return before + line
 
 
-def rewritten(text, is_clang=False):
+def rewritten(text: str, is_clang: bool = False) -> tuple[str, list[str]]:
     """The source with its loops rewritten, and a line for each directive that can't be traced."""
     source = Source(text, is_clang)
     return source.rewritten(), source.faults
 
 
-def ignored(text):
+def ignored(text: str) -> Iterator[tuple[str, int]]:
     """The places of directives by which something would be parallel, but for those of the system's headers."""
     bare, files = blanked(text), Files(text)
     for pragma in PRAGMAS.finditer(text):
@@ -281,7 +273,7 @@ UNKNOWN = (
 UNDEFINED = re.compile("^(?:\\S*ld: )?(.*?):? undefined reference to [`'](\\w+)'", re.MULTILINE)
 
 
-def unknown(messages):
+def unknown(messages: str) -> list[str]:
     """A line for each call of OpenMP that a linker's messages say is missing."""
     lines = []
     for where, name in UNDEFINED.findall(messages):

@@ -1,7 +1,14 @@
 """The command line of spbags-cc: the compiler's words, each where it belongs."""
+from __future__ import annotations
+
 import os
 import re
 import sys
+from collections.abc import Iterable, Iterator
+
+TYPE_CHECKING = False
+if TYPE_CHECKING:
+    from typing import NoReturn
 
 # spbags-c++ is this program under that name.
 NAME = os.environ.pop("SPBAGS_NAME", os.path.basename(sys.argv[0]))
@@ -11,21 +18,25 @@ LANGUAGE = "c++" if IS_CPLUSPLUS else "c"
 # Options after which nothing is linked, and the endings of what they make.
 ENDINGS = {"-c": ".o", "-S": ".s", "-fsyntax-only": None}
 
-# Options that aren't the compiler's: to leave the detector out; to link it, which needs no word; and not to test at
-# each access, inline, whether it is a repeat.
-OWN_OPTIONS = TRACE, INSIDE, NO_INLINE_CHECKS = "--trace", "--inside", "--no-inline-checks"
+# Options that aren't the compiler's: to leave the detector out; to link it, which needs no word; not to test at each
+# access, inline, whether it is a repeat; and to compile nothing, but to print the steps that each source takes.
+OWN_OPTIONS = TRACE, INSIDE, NO_INLINE_CHECKS, STEPS = "--trace", "--inside", "--no-inline-checks", "--steps"
 # This stands alone.
 COMPILE_HOOKS = "--compile-hooks"
 PLAIN_LANGUAGES = {"c-header", "c++-header", "assembler", "assembler-with-cpp"}
-DROPPED = ("-O", "-flto", "-fsanitize", "-fno-sanitize", "-fopencilk", "-fcilkplus", "-ftapir", "-fcilktool",
-           "-finline", "-fomit-frame-pointer", "-foptimize-sibling-calls", "-fuse-ld")
+DROPPED = tuple(
+    "-O -flto -fsanitize -fno-sanitize -fopencilk -fcilkplus -ftapir -fcilktool -finline -fomit-frame-pointer "
+    "-foptimize-sibling-calls -fuse-ld".split()
+)
 # In a static program the library's own calls would be taken for the program's.
-DROPPED_WORDS = {INSIDE, "-static", "-static-pie", "-lcilkrts", "-lgomp", "-lomp", "-liomp5", "-ltbb", "-pie",
-                 "-no-pie", "-g0", "-fno-lto", "-gsplit-dwarf", "-momit-leaf-frame-pointer", "-fverbose-asm", "-dA", "-dp",
-                 "-dP"}
+DROPPED_WORDS = set(
+    f"{INSIDE} -static -static-pie -lcilkrts -lgomp -lomp -liomp5 -ltbb -pie -no-pie -g0 -fno-lto -gsplit-dwarf "
+    "-momit-leaf-frame-pointer -fverbose-asm -dA -dp -dP".split()
+)
 DROPPED_FILES = re.compile(r"lib(?:gomp|omp|iomp5)\.(?:a|so\b.*)")
-WITH_VALUE = {"-I", "-D", "-U", "-include", "-imacros", "-isystem", "-iquote", "-idirafter", "-Xpreprocessor",
-              "-Xclang", "-mllvm", "--param", "-arch", "-target"}
+WITH_VALUE = set(
+    "-I -D -U -include -imacros -isystem -iquote -idirafter -Xpreprocessor -Xclang -mllvm --param -arch -target".split()
+)
 LINK_WITH_VALUE = {"-L", "-l", "-Xlinker", "-T", "-u", "-z", "-e"}
 DEPENDENCIES_WITH_VALUE = {"-MF", "-MT", "-MQ"}
 CPLUSPLUS = (".cc", ".cpp", ".cxx", ".c++", ".C", ".CPP", ".ii", ".hpp")
@@ -33,11 +44,11 @@ ASSEMBLY = (".s", ".S", ".sx")
 OBJECTS = (".o", ".a", ".so", ".lo", ".obj")
 
 
-def say(message):
+def say(message: str) -> None:
     print(f"{NAME}: {message}", file=sys.stderr)
 
 
-def fail(message, status=1):
+def fail(message: str, status: int = 1) -> NoReturn:
     say(message)
     sys.exit(status)
 
@@ -45,14 +56,20 @@ def fail(message, status=1):
 class Words:
     """The words of the command line, each where it belongs."""
 
-    def __init__(self, words):
-        self.compiling, self.linking, self.dependencies = [], [], []
-        self.sources, self.output, self.ends_with, self.level, self.openmp = [], None, None, "-O1", []
+    def __init__(self, words: Iterable[str]) -> None:
+        self.compiling: list[str] = []
+        self.linking: list[str] = []
+        self.dependencies: list[str] = []
+        self.sources: list[str] = []
+        self.openmp: list[str] = []
+        self.output: str | None = None
+        self.ends_with: str | None = None
+        self.level = "-O1"
         self.inside = self.inline_checks = True
-        self.shared = self.relocatable = False
+        self.shared = self.relocatable = self.shows_steps = False
         # Whether a file is named, and whether the compiler itself takes them all.
         self.names_files = self.plain = False
-        self.named_language = None
+        self.named_language: str | None = None
         rest = iter(words)
         for word in rest:
             if word in WITH_VALUE:
@@ -72,23 +89,25 @@ class Words:
         self.for_library = self.shared or bool({"-fPIC", "-fpic"} & set(self.compiling))
 
     @staticmethod
-    def value(word, rest):
+    def value(word: str, rest: Iterator[str]) -> str:
         found = next(rest, None)
         return found if found is not None else fail(f"{word} needs a value")
 
-    def language(self, name):
+    def language(self, name: str) -> None:
         self.plain |= name in PLAIN_LANGUAGES
         if name not in (LANGUAGE, "none", *PLAIN_LANGUAGES):
             fail(f"the language {name} can't be traced by {NAME}, only {'C++' if IS_CPLUSPLUS else 'C'}")
         self.named_language = name if name == LANGUAGE else None
 
-    def option(self, word):
+    def option(self, word: str) -> None:
         if word in ENDINGS:
             self.ends_with = word
         elif word == TRACE:
             self.inside = False
         elif word == NO_INLINE_CHECKS:
             self.inline_checks = False
+        elif word == STEPS:
+            self.shows_steps = True
         elif word == "-":
             self.file(word)
         elif word.startswith("-x"):
@@ -109,7 +128,7 @@ class Words:
         else:
             self.compiling.append(word)
 
-    def file(self, name):
+    def file(self, name: str) -> None:
         self.names_files = True
         if DROPPED_FILES.fullmatch(os.path.basename(name)):
             return
@@ -122,7 +141,7 @@ class Words:
         self.linking.append(name)
 
 
-def expanded(words):
+def expanded(words: Iterable[str]) -> Iterator[str]:
     """The words, with those of a file in place of @file, as the compiler takes them."""
     for word in words:
         try:
@@ -136,10 +155,10 @@ def expanded(words):
             yield from expanded(words_of(text))
 
 
-def words_of(text):
+def words_of(text: str) -> list[str]:
     """The words of a text: quotes hold spaces, and a backslash any letter."""
-    found, quote, letters = [], None, iter(text)
-    inside = False
+    found: list[str] = []
+    quote, letters, inside = None, iter(text), False
     for letter in letters:
         if quote is None and letter.isspace():
             inside = False

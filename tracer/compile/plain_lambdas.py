@@ -1,15 +1,16 @@
 """The lambdas of a preprocessed source in C++ that oneTBB's and C++'s parallel algorithms get, and that touch nothing
 but their parameters: `spbags::plain(..)` around each says so to the headers, which name other functions in a report."""
+from __future__ import annotations
+
 import re
 
-from tokens import arguments_of, blanked, is_in_block, statement_start, tokens_of
+from compile.line_markers import Files
+from tokens import Token, arguments_of, blanked, is_in_block, statement_start, tokens_of
 
 CALL = re.compile(r"\b(?:parallel_(?:deterministic_)?reduce|parallel_scan|(?:transform_)?reduce|"
                   r"(?:transform_)?(?:in|ex)clusive_scan|remove(?:_copy)?_if|copy_if|(?:stable_)?partition(?:_copy)?|"
                   r"unique(?:_copy)?)\s*\(")
 HEADER = re.compile(r'^# 1 "[^"\n]*/spbags/parallel\.h"', re.MULTILINE)
-# A line that says which file follows, and whether it is a header of the system.
-MARKER = re.compile(r'^# \d+ "(?:\\.|[^"\\\n])*"([ 0-9]*)\n', re.MULTILINE)
 NO_TYPES = {"const", "&", "&&", "std", "::"}
 SCALARS = set("int long short char unsigned signed float double _Bool bool wchar_t size_t ssize_t ptrdiff_t "
               "__int128".split())
@@ -19,28 +20,24 @@ STATEMENTS = {"if", "while", "for", "switch", "return", "static_cast", "const_ca
 PLAIN_WORDS = SCALARS | {"const", "void", "if", "else", "return", "static_cast", "reinterpret_cast", "auto"}
 
 
-def first_call(text):
+def first_call(text: str) -> int | None:
     """Where the first part of the program's own begins that calls such an algorithm, or None."""
     bare = blanked(text)
-    markers = [*MARKER.finditer(bare), None]
-    for marker, following in zip(markers, markers[1:]):
-        end = following.start() if following else len(text)
-        if "3" not in marker[1].split() and CALL.search(bare, marker.end(), end):
-            return marker.start()
-    return None
+    return next((start for start, end, is_system in Files(text).parts()
+                 if not is_system and CALL.search(bare, start, end)), None)
 
 
-def is_scalar(words):
+def is_scalar(words: list[str]) -> bool:
     return bool(words) and all(word in SCALARS or SCALAR.fullmatch(word) for word in words)
 
 
-def is_number(tokens, first, last):
+def is_number(tokens: list[Token], first: int, last: int) -> bool:
     """Whether this parameter, with or without a name, is one."""
     words = [token.text for token in tokens[first:last] if token.text not in NO_TYPES]
     return words == ["auto"] or is_scalar(words)
 
 
-def is_plain(tokens, first, last):
+def is_plain(tokens: list[Token], first: int, last: int) -> bool:
     """Whether this names a function, or is one, that touches nothing but its parameters: it calls none, and names no
     other variable."""
     if tokens[first].text == "&" and first < last:
@@ -56,14 +53,14 @@ def is_plain(tokens, first, last):
                for at, token in enumerate(tokens[:-1]) if token.kind == "word")
 
 
-def is_of_library(tokens, at):
+def is_of_library(tokens: list[Token], at: int) -> bool:
     """Whether this is `std::max` or `std::min`, or a part of that."""
     if tokens[at].text == "std":
         return tokens[at + 1].text == "::"
     return tokens[at].text in ("max", "min") and [token.text for token in tokens[at - 2:at]] == ["std", "::"]
 
 
-def is_plain_body(tokens, opening):
+def is_plain_body(tokens: list[Token], opening: int) -> bool:
     """Of the function whose parameters these brackets hold."""
     body = tokens[opening].partner + 1
     if tokens[body].text == "->":
@@ -93,12 +90,12 @@ def is_plain_body(tokens, opening):
     return True
 
 
-def takes_address(tokens, at):
+def takes_address(tokens: list[Token], at: int) -> bool:
     before = tokens[at - 1]
     return tokens[at].text == "&" and before.kind == "mark" and before.text not in (")", "]")
 
 
-def is_plain_lambda(tokens, first, last):
+def is_plain_lambda(tokens: list[Token], first: int, last: int) -> bool:
     if [token.text for token in tokens[first:first + 3]] != ["[", "]", "("]:
         return False
     body = tokens[first + 2].partner + 1
@@ -108,7 +105,7 @@ def is_plain_lambda(tokens, first, last):
                 for at in range(body, last))
 
 
-def rewritten(text):
+def rewritten(text: str) -> str:
     start = first_call(text) if HEADER.search(text) else None
     if start is None:
         return text

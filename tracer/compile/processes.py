@@ -1,8 +1,11 @@
 """Other programs that a command starts, and a folder for their files. The modules `subprocess` and `tempfile` take longer
 to be read than a compiler takes for a small source."""
+from __future__ import annotations
+
 import os
 import signal
 import sys
+from collections.abc import Iterable
 
 from compile.options import fail
 
@@ -10,27 +13,27 @@ from compile.options import fail
 USUAL = [signal.SIGPIPE, signal.SIGXFSZ]
 
 
-def start(words, files=()):
+def start(words: list[str], files: Iterable[tuple[int, int]] = ()) -> int:
     """The process of a command. It gets each of these files, of a number of its own and a descriptor of ours."""
     return os.posix_spawnp(words[0], words, os.environ, setsigdef=USUAL,
                            file_actions=[(os.POSIX_SPAWN_DUP2, file, number) for number, file in files])
 
 
-def status_of(process):
+def status_of(process: int) -> int:
     return os.waitstatus_to_exitcode(os.waitpid(process, 0)[1])
 
 
-def run(*words):
+def run(*words: str) -> None:
     """Ends this command where that one fails."""
     try:
-        status = status_of(start(words))
+        status = status_of(start([*words]))
     except OSError as error:
         fail(f"{words[0]}: {error.strerror}")
     if status != 0:
         sys.exit(status if status > 0 else 1)
 
 
-def heard(words, number, files=()):
+def heard(words: list[str], number: int, files: Iterable[tuple[int, int]] = ()) -> tuple[int, str]:
     """The status of a command, and what it writes to this descriptor."""
     out, into = os.pipe()
     process = start(words, [(number, into), *files])
@@ -40,21 +43,21 @@ def heard(words, number, files=()):
     return status_of(process), text
 
 
-def answer(*words):
+def answer(*words: str) -> tuple[int, str]:
     """The status of a command, and what it answers. Nobody hears what it says beside."""
     with open(os.devnull, "r+b") as nothing:
-        return heard(words, 1, [(0, nothing.fileno()), (2, nothing.fileno())])
+        return heard([*words], 1, [(0, nothing.fileno()), (2, nothing.fileno())])
 
 
 class Folder:
     """One that is there for a while."""
 
-    def __enter__(self):
+    def __enter__(self) -> str:
         self.name = os.path.join(os.environ.get("TMPDIR") or "/tmp", f"spbags-cc-{os.urandom(8).hex()}")
         os.mkdir(self.name, 0o700)
         return self.name
 
-    def __exit__(self, *_):
+    def __exit__(self, *_: object) -> None:
         for folder, folders, files in os.walk(self.name, topdown=False):
             for name in files:
                 os.unlink(os.path.join(folder, name))

@@ -5,13 +5,21 @@ evaluates comes first, into temporaries: the function, its arguments, the addres
 opened, and the call and the store of the result are the child's. Nothing else can be divided between a parent and its
 child by a text alone, so every other spawn is refused.
 """
+from __future__ import annotations
+
 import re
+from collections.abc import Iterable
 
 from compile import loops
 from compile import spawns_cplusplus
 from compile.line_markers import Files
-from tokens import (ASSIGNMENTS, Refused, arguments_of, call_after, is_in_block, is_lvalue, own_constants, piece,
+from tokens import (ASSIGNMENTS, Refused, Token, arguments_of, call_after, is_in_block, is_lvalue, own_constants, piece,
                     statement_start, tokens_of, without)
+
+TYPE_CHECKING = False
+if TYPE_CHECKING:
+    from typing import Any
+    Edit = tuple[Any, ...]
 
 LITERALS = {"string", "character", "number"}
 NO_LOCALS = {"static", "extern", "typedef", "__auto_type"}
@@ -29,13 +37,13 @@ REFUSED = {word: f"{word} is no keyword here: write `#include <cilk/cilk.h>' abo
 MEANT = {"_Cilk_spawn", "_Cilk_for", "_Cilk_scope", "_Cilk_sync", "try", *REFUSED}
 
 
-def is_one_target(tokens, first, sign):
+def is_one_target(tokens: list[Token], first: int, sign: int) -> bool:
     """Whether one thing stands before this sign, which is an assignment's."""
     direct = {token.text for token in tokens[first:sign] if token.around == tokens[sign].around}
     return tokens[sign].text in ASSIGNMENTS and first < sign and not (ASSIGNMENTS | {",", "?", "return"}) & direct
 
 
-def check_target(tokens, first, spawn):
+def check_target(tokens: list[Token], first: int, spawn: int) -> bool:
     """What stands before a spawn has to be `lvalue =` or `type name =`."""
     sign = spawn - 1
     target = tokens[first:sign]
@@ -51,23 +59,24 @@ def check_target(tokens, first, spawn):
 class Spawn:
     """One spawn, and the pieces of what stands for its statement."""
 
-    def __init__(self, text, tokens, spawn):
+    def __init__(self, text: str, tokens: list[Token], spawn: int) -> None:
         self.text, self.tokens, self.spawn = text, tokens, spawn
         self.here = tokens[spawn].marker(" 3")
-        self.opening = call_after(tokens, spawn)
-        if not is_in_block(tokens, spawn) or self.opening is None:
+        opening = call_after(tokens, spawn)
+        if not is_in_block(tokens, spawn) or opening is None:
             raise Refused(tokens[spawn], f"a spawn inside a larger expression can't be traced: {SHAPES}")
+        self.opening = opening
         self.closing = tokens[self.opening].partner
         if any(token.text == "_Cilk_spawn" for token in tokens[spawn + 1:self.closing]):
             raise Refused(tokens[spawn], f"a spawn inside another one can't be traced: {SHAPES}")
         self.first = statement_start(tokens, spawn)
         self.last = self.closing + 1
 
-    def piece(self, first, last, without=()):
+    def piece(self, first: int, last: int, without: Iterable[Token] = ()) -> str:
         """A piece of the program, on its own lines; what follows is on the spawn's."""
         return piece(self.text, self.tokens[first], self.tokens[last], without) + self.here
 
-    def arguments(self):
+    def arguments(self) -> tuple[list[str], str]:
         """A declaration for each argument that has to be evaluated first, and what to hand over."""
         made, names = [], []
         for number, (first, last) in enumerate(arguments_of(self.tokens, self.opening)):
@@ -79,7 +88,7 @@ class Spawn:
                 names.append(f"__spbags_{number}")
         return made, ", ".join(names)
 
-    def target(self):
+    def target(self) -> tuple[str, list[str]]:
         """The declaration that goes before all, and the one of the result's address."""
         if [token.text for token in self.tokens[self.first:self.spawn]] in ([], ["(", "void", ")"]):
             return "", []
@@ -89,7 +98,7 @@ class Spawn:
             named = (self.spawn - 2, self.spawn - 2)
         return declared, [f"__auto_type __spbags_target = &({self.piece(*named)});"]
 
-    def rewritten(self):
+    def rewritten(self) -> str:
         declared, address = self.target()
         before, names = self.arguments()
         call = f"__spbags_g({names})"
@@ -108,16 +117,18 @@ class Spawn:
             # Never done, as only the hooks know; but where it could be, arguments pass below the stack pointer.
             "if (!__spbags_g) __spbags_return(__builtin_alloca(16), 0);",
             f"__auto_type __spbags_result = {result};", *ends]
-        return self.here + declared + " ".join(made) + self.tokens[self.last].marker()
+        last: Token = self.tokens[self.last]
+        return self.here + declared + " ".join(made) + last.marker()
 
 
-def refused(text, why):
+def refused(text: str, why: str) -> list[str]:
     """A line for each keyword of Cilk in a source that can't have any."""
     tokens = tokens_of(text) if "_Cilk_" in text else []
     return [f"{token.place()}: error: {why}" for token in tokens if token.text.startswith("_Cilk_")]
 
 
-def edits_of(text, tokens, at, language, waiting):
+def edits_of(text: str, tokens: list[Token], at: int, language: str, waiting: set[int]) -> tuple[Edit,
+             list[Edit]] | None:
     """What has to be rewritten here: the indexes of the first and the last token, and their new text; and later edits,
     each of this form, or the index of a token and what comes behind it. Or None."""
     token = tokens[at]
@@ -146,13 +157,17 @@ def edits_of(text, tokens, at, language, waiting):
 class Rewriting:
     """A source that is rewritten from its first token to its last."""
 
-    def __init__(self, text, language):
+    def __init__(self, text: str, language: str) -> None:
         self.text, self.language = text, language
         self.tokens = tokens_of(text, Files(text).own())
         self.waiting = spawns_cplusplus.waiting_in(text, self.tokens) if language == "c++" else set()
-        self.made, self.done, self.faults, self.behind, self.planned = [], 0, [], {}, {}
+        self.made: list[str] = []
+        self.done = 0
+        self.faults: list[str] = []
+        self.behind: dict[int, list[str]] = {}
+        self.planned: dict[int, tuple[Edit, list[Edit]]] = {}
 
-    def rewrite(self, at):
+    def rewrite(self, at: int) -> None:
         try:
             edits = self.planned.pop(at, None) or edits_of(self.text, self.tokens, at, self.language, self.waiting)
         except Refused as refused:
@@ -168,7 +183,7 @@ class Rewriting:
                 else:
                     self.behind.setdefault(edit[0], []).insert(0, edit[1])
 
-    def rewritten(self):
+    def rewritten(self) -> tuple[str, list[str]]:
         for at, token in enumerate(self.tokens):
             if (token.text in MEANT or at in self.planned or at in self.waiting) and token.start >= self.done:
                 self.rewrite(at)
@@ -178,10 +193,8 @@ class Rewriting:
         return "".join(self.made) + self.text[self.done:], self.faults
 
 
-def rewritten(text, language):
+def rewritten(text: str, language: str) -> tuple[str, list[str]]:
     """The source with its spawns, loops, scopes and syncs rewritten, and a line for each that can't be."""
-    has_loops = "_Cilk_for" in text
-    if has_loops:
+    if "_Cilk_for" in text:
         text = without(text, IGNORED)
-    text, faults = Rewriting(text, language).rewritten()
-    return (text + loops.INSTEAD_OF_TASK if has_loops and language == "gcc" else text), faults
+    return Rewriting(text, language).rewritten()

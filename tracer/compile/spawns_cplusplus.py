@@ -3,12 +3,20 @@
 A spawn's statement becomes a lambda: a function that first evaluates the target, what is called and the arguments, as
 a part of the parent. include/spbags/spawn.h then makes a child of it, which calls, stores and destroys. So the text of
 the program stays where it is, in one full expression, and the compiler chooses the function."""
+from __future__ import annotations
+
 import re
+from collections.abc import Iterable
 
 from compile.loops import KEEPS, begins_function, entered, is_in_inner
-from compile.operators import OUTSIDE, Operation, pointer_sign, signature
-from tokens import (ASSIGNMENTS, CONTROLS, Refused, after_angles, arguments_of, is_in_block, outside, own_constants, piece,
+from compile.operators import Operation, pointer_sign, signature, with_hooks_and_without
+from tokens import (ASSIGNMENTS, CONTROLS, Refused, Token, after_angles, arguments_of, is_in_block, outside, own_constants, piece,
                     statement_start)
+
+TYPE_CHECKING = False
+if TYPE_CHECKING:
+    from typing import Any, NoReturn
+    Edit = tuple[Any, ...]
 
 SHAPES = ("write `cilk_spawn f(..);', `x = cilk_spawn f(..);', `x += cilk_spawn f(..);' or "
           "`T x = cilk_spawn f(..);' as a statement of its own")
@@ -17,14 +25,13 @@ LARGER = f"a spawn inside a larger expression can't be traced: {SHAPES}"
 NO_NAMES = CONTROLS | set("sizeof alignof typeid decltype noexcept new delete throw return static_cast dynamic_cast "
                           "const_cast reinterpret_cast co_await co_yield co_return requires catch auto "
                           "__attribute__ asm __asm__ __typeof__ typeof".split())
-NO_LOCALS = {"static", "extern", "typedef", "using", "thread_local", "_Thread_local", "__thread", "constexpr",
-             "constinit"}
+NO_LOCALS = set("static extern typedef using thread_local _Thread_local __thread constexpr constinit".split())
 NO_SIGNATURE = "[&](__spbags_spawned, auto *) -> __spbags_no_signature { return {}; }"
 STATEMENT = "[&](__spbags_spawned) __attribute__((noipa))"
 FORWARDED = "static_cast<decltype(__spbags_p) &&>(__spbags_p)..."
 
 
-def after_name(tokens, at):
+def after_name(tokens: list[Token], at: int) -> int | None:
     """The token behind a name that begins here, perhaps qualified or of a template; or None."""
     at += tokens[at].text == "::"
     while True:
@@ -41,7 +48,7 @@ def after_name(tokens, at):
         at += 1
 
 
-def after_operator(tokens, at):
+def after_operator(tokens: list[Token], at: int) -> int | None:
     """The arguments of the operator of this name, or None."""
     at = tokens[at].partner + 1 if tokens[at].text == "(" else at
     while tokens[at].text not in ("(", ";"):
@@ -49,7 +56,7 @@ def after_operator(tokens, at):
     return at if tokens[at].text == "(" else None
 
 
-def after_lambda(tokens, at):
+def after_lambda(tokens: list[Token], at: int) -> int | None:
     """The token behind a lambda that begins here, or None."""
     at = tokens[at].partner + 1
     while tokens[at].text not in ("{", ";", "}", ")"):
@@ -57,7 +64,7 @@ def after_lambda(tokens, at):
     return tokens[at].partner + 1 if tokens[at].text == "{" else None
 
 
-def is_statement(tokens, at):
+def is_statement(tokens: list[Token], at: int) -> bool:
     """Whether this stands in a block of a function, and not in one of a class or a namespace."""
     if not is_in_block(tokens, at):
         return False
@@ -66,12 +73,12 @@ def is_statement(tokens, at):
     return "(" in words or ")" in words or not {"struct", "class", "union", "namespace", "extern"} & words
 
 
-def after_primary(tokens, at):
+def after_primary(tokens: list[Token], at: int) -> int | None:
     text = tokens[at].text
     if text == "[":
         return after_lambda(tokens, at)
     if text == "(":
-        return tokens[at].partner + 1
+        return int(tokens[at].partner) + 1
     end = after_name(tokens, at)
     return tokens[end].partner + 1 if end and tokens[end].text == "{" and tokens[end].partner else end
 
@@ -82,7 +89,7 @@ def after_primary(tokens, at):
 KEEPER, SPAWNED = "class __spbags_frame", "struct __spbags_spawned"
 
 
-def waits_at(tokens, at):
+def waits_at(tokens: list[Token], at: int | None) -> int | None:
     """Where what is around this and waits for its children begins: the brace of a function, a scope or a `try` block, or
     the bracket before an iteration of a loop. Or None."""
     while at is not None and tokens[at].text != "}":
@@ -95,19 +102,20 @@ def waits_at(tokens, at):
     return None
 
 
-def waiting_in(text, tokens):
+def waiting_in(text: str, tokens: list[Token]) -> set[int]:
     """Where all begins that waits for children whose exceptions it keeps: also the loops, by their keywords."""
     if KEEPER not in text:
         return set()
-    return {at if token.text == "_Cilk_for" else waits_at(tokens, at) for at, token in enumerate(tokens)
-            if token.text in ("_Cilk_spawn", "_Cilk_for")} - {None}
+    starts = (at if token.text == "_Cilk_for" else waits_at(tokens, at) for at, token in enumerate(tokens)
+              if token.text in ("_Cilk_spawn", "_Cilk_for"))
+    return {start for start in starts if start is not None}
 
 
-def keeper(token):
+def keeper(token: Token) -> str:
     return f"{token.marker(' 3')}{KEEPS}{token.marker()}"
 
 
-def sync(tokens, at, waiting):
+def sync(tokens: list[Token], at: int, waiting: set[int]) -> str:
     start = waits_at(tokens, at)
     while start is not None and start not in waiting:
         is_last = tokens[start].text == ")" or begins_function(tokens, start)
@@ -115,7 +123,7 @@ def sync(tokens, at, waiting):
     return "__spbags_sync()" if start is None else "(__spbags_sync(), __spbags_here.__throw_again())"
 
 
-def end_of_expression(tokens, first):
+def end_of_expression(tokens: list[Token], first: int) -> int:
     """The semicolon behind it, or the end of the brackets around it."""
     end = tokens[tokens[first].around].partner
     return next((at for at in outside(tokens, first, end) if tokens[at].text == ";"), end)
@@ -124,7 +132,7 @@ def end_of_expression(tokens, first):
 class Postfix:
     """An expression from a token on: its end, where its last call begins, and where the member that this calls does."""
 
-    def __init__(self, tokens, first):
+    def __init__(self, tokens: list[Token], first: int) -> None:
         self.first, self.call, self.member = first, None, None
         self.end = after_primary(tokens, first)
         while self.end is not None and tokens[self.end].text in ("(", "[", ".", "->"):
@@ -142,7 +150,7 @@ class Postfix:
 class Spawn:
     """One spawn, and the pieces of what stands for its statement."""
 
-    def __init__(self, text, tokens, spawn, waiting):
+    def __init__(self, text: str, tokens: list[Token], spawn: int, waiting: set[int]) -> None:
         self.text, self.tokens, self.spawn = text, tokens, spawn
         self.keeps = waits_at(tokens, spawn) in waiting
         self.here = tokens[spawn].marker(" 3")
@@ -151,7 +159,9 @@ class Spawn:
         if not is_statement(tokens, spawn):
             self.refuse(LARGER)
         self.callee, self.end = Postfix(tokens, spawn + 1), end_of_expression(tokens, spawn + 1)
-        self.opening, self.operation = self.callee.call, None
+        # Where the arguments begin, if it is a call; else the operation that it is.
+        self.opening: Any = self.callee.call
+        self.operation: Operation | None = None
         if self.opening is None or self.callee.end != self.end:
             self.operation = Operation(tokens, self.callee, self.end)
         if self.operation and self.operation.sign is None:
@@ -166,30 +176,31 @@ class Spawn:
         if self.operation and self.operation.is_assignment and self.first != spawn:
             self.refuse(LARGER)
 
-    def refuse(self, why):
+    def refuse(self, why: str) -> NoReturn:
         raise Refused(self.tokens[self.spawn], why)
 
-    def piece(self, first, last, without=()):
+    def piece(self, first: int, last: int, without: Iterable[Token] = ()) -> str:
         """A piece of the program, on its own lines; what follows is on the spawn's."""
         return piece(self.text, self.tokens[first], self.tokens[last], without) + self.here
 
-    def count(self):
+    def count(self) -> str:
         """How many arguments there are, where the text says it."""
         arguments = arguments_of(self.tokens, self.opening)
         if any(self.tokens[last].text == "..." for _, last in arguments):
             return "__spbags_all"
         return str(len(arguments))
 
-    def called(self):
+    def called(self) -> tuple[str, list[Edit]]:
         """What goes before the callee in the text, and the edits of the callee itself."""
         callee, tokens = self.callee, self.tokens
         if self.operation:
             return self.operation.edits(self.here)
-        if self.pointer_sign() is not None:
-            return self.called_by_pointer()
+        sign = self.pointer_sign()
+        if sign is not None:
+            return self.called_by_pointer(sign)
         if callee.member is not None:
             pointed = "*__spbags_pointed(" if tokens[callee.member].text == "->" else ""
-            calls = self.here + (")" if pointed else "") + self.member_calls() + tokens[self.opening].marker()
+            calls = self.here + (")" if pointed else "") + self.member_calls(callee.member) + tokens[self.opening].marker()
             edit = (callee.member, self.opening - 1, calls)
             return f"__spbags_member<{self.count()}>({pointed}", [edit]
         if self.is_name(self.spawn + 1, self.opening):
@@ -198,25 +209,25 @@ class Spawn:
             return f"__spbags_name<{self.count()}>(", [edit]
         return f"__spbags_expression<{self.count()}>(", [(self.opening - 1, ")")]
 
-    def pointer_sign(self):
+    def pointer_sign(self) -> int | None:
         """Of a member that a pointer to it names."""
         first = self.spawn + 1
         is_bracket = self.tokens[first].text == "(" and self.tokens[first].partner == self.opening - 1
         return pointer_sign(self.tokens, first) if is_bracket else None
 
-    def called_by_pointer(self):
-        sign, begins = self.pointer_sign(), f"(__spbags_object<{self.count()}>("
+    def called_by_pointer(self, sign: int) -> tuple[str, list[Edit]]:
+        begins = f"(__spbags_object<{self.count()}>("
         pointed, ends = ("*__spbags_address(", "))") if self.tokens[sign].text == "->" else ("", ")")
         first = self.spawn + 1
         return "", [(first, first, begins + pointed), (sign, sign + 1, f"{ends} ->* ("), (self.opening - 1, ")")]
 
-    def is_name(self, first, end):
+    def is_name(self, first: int, end: int) -> bool:
         """Whether these tokens are a name, perhaps in brackets."""
         if self.tokens[first].text == "(" and self.tokens[first].partner == end - 1:
             return self.is_name(first + 1, end - 1)
         return self.tokens[first].text != "this" and after_name(self.tokens, first) == end
 
-    def words(self, first):
+    def words(self, first: int) -> tuple[str, bool]:
         """The name that is called, and whether it is that of a template with its arguments. Such a name may stand for
         several functions, also where its address has one type."""
         last = self.opening - 1
@@ -225,28 +236,24 @@ class Spawn:
         name = re.sub(r"\s*\n(?:#[^\n]*\n)?\s*", " ", self.text[self.tokens[first].start:self.tokens[last].end])
         return name, has_arguments
 
-    def name_calls(self):
+    def name_calls(self) -> str:
         name, has_arguments = self.words(self.spawn + 1)
         one = f"__spbags_one({'__spbags_spawned()' if has_arguments else name}, __spbags_any)"
-        call = f"{name}({FORWARDED})"
-        calls = [f"[&](__spbags_spawned, auto &&...__spbags_p) {how} -> decltype(auto) {{ return {call}; }}"
-                 for how in ("", OUTSIDE)]
-        return (f"[&](__spbags_spawned, auto __spbags_any) -> decltype({one}) {{ return {one}; }}, "
-                f"{', '.join(calls)}, 0)")
+        calls = with_hooks_and_without("__spbags_spawned, auto &&...__spbags_p", f"return {name}({FORWARDED});")
+        return f"[&](__spbags_spawned, auto __spbags_any) -> decltype({one}) {{ return {one}; }}, {calls}, 0)"
 
-    def member_calls(self):
-        first = self.callee.member + 1
+    def member_calls(self, member: int) -> str:
+        first = member + 1
         name, has_arguments = self.words(first)
         if has_arguments and self.tokens[first].text != "template" and \
                 "::" not in [token.text for token in self.tokens[first:self.opening]]:
             name = "template " + name
         call = f"static_cast<decltype(__spbags_o) &&>(__spbags_o).{name}({FORWARDED})"
-        calls = [f"[&](__spbags_spawned, auto &&__spbags_o, auto &&...__spbags_p) {how} -> decltype(auto) "
-                 f"{{ return {call}; }}" for how in ("", OUTSIDE)]
+        parameters = "__spbags_spawned, auto &&__spbags_o, auto &&...__spbags_p"
         type_text = NO_SIGNATURE if has_arguments else signature(name)
-        return f", {', '.join([*calls, type_text])}, 0)"
+        return f", {with_hooks_and_without(parameters, f'return {call};')}, {type_text}, 0)"
 
-    def target(self):
+    def target(self) -> tuple[str, str, str | None]:
         """What the statement's function begins with, its type, and the declaration of what gets the result."""
         before = [token.text for token in self.tokens[self.first:self.spawn]]
         if before in ([], ["(", "void", ")"]):
@@ -263,10 +270,10 @@ class Spawn:
             return f"{kind} &&__spbags_at = ({at}); __spbags_at {before[-1]} ", "", None
         return self.declaration(sign)
 
-    def is_lvalue(self, sign):
+    def is_lvalue(self, sign: int) -> bool:
         return self.tokens[self.first].text in ("*", "(") or Postfix(self.tokens, self.first).end == sign
 
-    def declaration(self, sign):
+    def declaration(self, sign: int) -> tuple[str, str, str]:
         """Of a variable, which the statement's function returns."""
         texts = [self.tokens[at].text for at in outside(self.tokens, self.first, sign - 1)]
         if not texts or self.tokens[sign - 1].kind != "word" or self.tokens[sign].text not in ("=", "{") or \
@@ -279,11 +286,11 @@ class Spawn:
         plain = f"typename __spbags_plain<{self.piece(self.first, sign - 2)}>::__type"
         return f"return {plain + '{' if self.is_braced else ''}", f" -> {plain}", declared
 
-    def function(self, declares):
+    def function(self, declares: bool) -> str:
         """The statement's."""
         return f"__spbags_statement_{self.spawn}" if declares else "__spbags_statement"
 
-    def may_be_reference(self, name):
+    def may_be_reference(self, name: str) -> bool:
         """Whether the variable of this name may be a reference as well, since it is neither returned nor thrown."""
         tokens, end = self.tokens, self.tokens[self.tokens[self.first].around].partner
         for at in (at for at in range(self.last, end) if tokens[at].text == name and tokens[at + 1].text in (";", ")")):
@@ -292,7 +299,7 @@ class Spawn:
                 return False
         return True
 
-    def declares(self, kind):
+    def declares(self, kind: str) -> str:
         """What declares the variable of this type, which gets the result."""
         name, made, number = self.tokens[self.spawn - 2].text, self.function(True), self.spawn
         result, room = f"{made}({{}})", ""
@@ -306,12 +313,12 @@ class Spawn:
                 f"__spbags_check_local<{kind}>(); "
                 f"__spbags_ended_{number}.__end(__builtin_addressof({name}), sizeof {name});")
 
-    def edits(self):
+    def edits(self) -> tuple[Edit, list[Edit]]:
         """What is put in place of tokens, and later edits: in place of others, or behind one."""
         begins, kind, declared = self.target()
         opens, later = self.called()
         number = f"_{self.spawn}" if declared else ""
-        made = self.function(declared)
+        made = self.function(bool(declared))
         made_by = f"{'' if declared else '{ '}auto {made} = {STATEMENT}{kind} {{ {begins}{opens}"
         place = f"{self.tokens[self.spawn].file[:-1]}:{self.tokens[self.spawn].line}\""
         ends = f" }}; __spbags_ending __spbags_ended{number}{{{place}, &{made}, sizeof {made}}}; "
@@ -328,7 +335,7 @@ class Spawn:
         return (self.first, self.spawn, self.here + made_by + self.tokens[self.spawn].marker()), later
 
 
-def try_edits(tokens, at, waiting):
+def try_edits(tokens: list[Token], at: int, waiting: set[int]) -> tuple[Edit, list[Edit]] | None:
     """A block whose exceptions are handled waits at its end for its own children; None where it spawns none."""
     first = at + 1
     while tokens[first].text not in ("{", ";", "}"):

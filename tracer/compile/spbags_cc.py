@@ -7,12 +7,14 @@
     spbags-c++ -fopenmp -o program main.cpp
 
 The first link proves and builds the detector that each program gets, in some ten minutes. --trace leaves it out: then
-the program only writes traces. --no-inline-checks makes a smaller program, which is slower. --compile-hooks, alone,
-compiles ahead what else the first links would.
+the program only writes traces. --no-inline-checks makes a smaller program, which is slower. --steps prints which steps
+each source takes, and compiles nothing. --compile-hooks, alone, compiles ahead what else the first links would.
 
 The compiler of spbags-cc is gcc, or what the environment variable SPBAGS_CC or else CC names, for example CC=clang;
 that of spbags-c++ is g++, or what SPBAGS_CXX or else CXX names. The page tracer/README.md says what is supported of
 Cilk and OpenMP, and has the settings."""
+from __future__ import annotations
+
 import os
 import re
 import sys
@@ -22,6 +24,10 @@ from compile.options import COMPILE_HOOKS, ENDINGS, NAME, OWN_OPTIONS, Words, ex
 from compile.processes import Folder
 from installation import VERSION
 
+TYPE_CHECKING = False
+if TYPE_CHECKING:
+    from typing import NoReturn
+
 # What is of use only for some sources or links is imported where that is done: a small command waits for each module.
 
 # The compiler itself answers these.
@@ -29,7 +35,7 @@ ASKS = re.compile(r"-E|-M|-MM|-###|--?print-.*|-dump(?:version|fullversion|machi
                   r"--help(?:=.*)?|--target-help")
 
 
-def become_compiler(words):
+def become_compiler(words: list[str]) -> NoReturn:
     command = Compiler(None).command
     try:
         os.execvp(command[0], [*command, *INCLUDES, *[word for word in words if word not in OWN_OPTIONS]])
@@ -37,37 +43,54 @@ def become_compiler(words):
         fail(f"{command[0]}: {error.strerror}")
 
 
-def made_of(source, words, folder):
+def made_of(source: str, words: Words, folder: str) -> str | None:
     """The name of what comes of a source, or None where nothing comes. An object to be linked stands in this folder."""
     ending = ENDINGS[words.ends_with] if words.ends_with else ".o"
-    named = words.output if words.ends_with and len(words.sources) == 1 else None
-    made = ending and (named or os.path.splitext(os.path.basename(source))[0] + ending)
-    return made if words.ends_with else os.path.join(folder, made)
+    if not ending:
+        return None
+    made = os.path.splitext(os.path.basename(source))[0] + ending
+    if not words.ends_with:
+        return os.path.join(folder, made)
+    return words.output if words.output and len(words.sources) == 1 else made
 
 
-def main():
+def show_steps(compiler: Compiler, folder: str) -> None:
+    for source in compiler.words.sources:
+        print(*(f"{source}: {step}" for step in compiler.steps_of(source, folder)), sep="\n")
+
+
+def build(compiler: Compiler, folder: str) -> None:
+    words = compiler.words
+    objects: dict[str, str] = {}
+    for number, source in enumerate(words.sources):
+        own = os.path.join(folder, str(number))
+        os.mkdir(own)
+        made = made_of(source, words, own)
+        compiler.compile(source, made, folder)
+        if made:
+            objects[source] = made
+    if not words.ends_with:
+        from compile import link
+        link.Link(compiler, objects, folder).make()
+
+
+def main() -> int:
     words = list(expanded(sys.argv[1:]))
     if not words or words == ["--help"]:
         print(__doc__)
-        sys.exit(0 if words else 2)
+        return 0 if words else 2
     if words == [COMPILE_HOOKS]:
         from compile import link
-        sys.exit(link.compile_hooks())
+        link.compile_hooks()
+        return 0
     if words == ["--version"]:
         # Tools go by the compiler's own first line.
         print(Compiler(None).about.rstrip(), f"{NAME} {VERSION}", sep="\n")
-        sys.exit()
+        return 0
     chosen = None if any(map(ASKS.fullmatch, words)) else Words(words)
     if not chosen or chosen.plain or not chosen.names_files:
         become_compiler(words)
     compiler = Compiler(chosen)
     with Folder() as folder:
-        objects = {}
-        for number, source in enumerate(chosen.sources):
-            own = os.path.join(folder, str(number))
-            os.mkdir(own)
-            objects[source] = made_of(source, chosen, own)
-            compiler.compile(source, objects[source], folder)
-        if not chosen.ends_with:
-            from compile import link
-            link.Link(compiler, objects, folder).make()
+        (show_steps if chosen.shows_steps else build)(compiler, folder)
+    return 0

@@ -1,9 +1,11 @@
-"""The steps by which a preprocessed source is rewritten. Most sources need few of them, so each is imported where
-something in the source asks for it."""
+"""The steps by which a preprocessed source is rewritten, in their order: which sources take each, and a function from text
+to text, whose own text `spbags-cc --steps` prints. Most sources need few of them, so a module is imported where one does."""
+from __future__ import annotations
+
 import re
 import sys
+from collections.abc import Callable, Iterator
 
-from compile.options import IS_CPLUSPLUS
 from compile.line_markers import Files
 
 # The library has instances of these classes, whose accesses no hook would see.
@@ -16,9 +18,34 @@ ATTRIBUTES = re.compile("always_inline|no_sanitize|disable_sanitizer")
 OPENMP = re.compile(r"#[ \t]*pragma[ \t]+omp\b|\[\[\s*(?:using\s+)?omp\b")
 CILK = re.compile("_Cilk_|cilk_(?:spawn|sync|for|scope)")
 ALGORITHMS = re.compile(r'"[^"\n]*/spbags/parallel\.h"')
+# gcc calls its runtime for a task, as the body of a loop of Cilk is one, and here the hooks.
+INSTEAD_OF_TASK = '\n__asm__("GOMP_task = __spbags_task");\n'
 
 
-def may_have_assembly(text):
+class Target:
+    """What a source is compiled for."""
+
+    def __init__(self, is_cplusplus: bool, is_clang: bool, has_openmp: bool, warns: bool = True) -> None:
+        self.is_cplusplus, self.is_clang, self.has_openmp = is_cplusplus, is_clang, has_openmp
+        # Of OpenMP that is ignored.
+        self.warns = warns and not has_openmp
+
+
+# The source that a step makes, and a line for each thing that can't be traced.
+Made = tuple[str, list[str]]
+
+
+class Step:
+    """A function, whose text says what it does to a source, and which sources it is for."""
+
+    def __init__(self, name: str, is_taken: Callable[[str, Target], object],
+                 rewrite: Callable[[str, Target], Made]) -> None:
+        self.name, self.is_taken, self.rewrite = name, is_taken, rewrite
+
+
+# ---- Assembly ----
+
+def may_have_assembly(text: str) -> bool:
     """Whether the assembler's word stands anywhere but in a declaration, which most sources have."""
     at = text.find("asm")
     while at >= 0:
@@ -29,7 +56,7 @@ def may_have_assembly(text):
     return False
 
 
-def begins(text, at):
+def begins(text: str, at: int) -> bool:
     """Whether this is behind the end of something else; a line that names a file may stand between."""
     before = text[max(at - NEAR, 0):at].rstrip()
     while before.startswith("#", before.rfind("\n") + 1):
@@ -37,67 +64,93 @@ def begins(text, at):
     return before[-1:] in ("", ";", "{", "}")
 
 
-def without_instances(text):
-    """The source in which the library's headers don't say that it has these."""
-    made, done, found = [], 0, list(STRINGS.finditer(text))
-    files = Files(text) if found else None
-    for declared in found:
+def with_assembly(text: str, _: Target) -> Made:
+    """tells where it stands outside of functions"""
+    from compile import assembly
+    return assembly.outside(text), []
+
+
+# ---- OpenMP ----
+
+def with_warning(text: str, _: Target) -> Made:
+    """warns that the program is serial without -fopenmp"""
+    from compile import openmp
+    place = next(openmp.ignored(text), None)
+    if place:
+        print("{}:{}: warning: without -fopenmp this OpenMP is ignored, so the program is serial".format(*place),
+              file=sys.stderr)
+    return text, []
+
+
+def with_openmp(text: str, target: Target) -> Made:
+    """loops ask the runtime for each iteration, and bodies say where they begin"""
+    from compile import openmp
+    return openmp.rewritten(text, target.is_clang)
+
+
+# ---- C++ ----
+
+def without_instances(text: str, _: Target) -> Made:
+    """the library's headers don't say that it has instances of them"""
+    made, done, files = [], 0, Files(text)
+    for declared in STRINGS.finditer(text):
         if files.at(declared.start())[1]:
             made.append(text[done:declared.start()])
             done = declared.end()
-    return "".join(made) + text[done:]
+    return "".join(made) + text[done:], []
 
 
-def warn_of_ignored(text, words):
-    if OPENMP.search(text) and not {"-w", "-Wno-unknown-pragmas"} & set(words.compiling):
-        from compile import openmp
-        place = next(openmp.ignored(text), None)
-        if place:
-            print("{}:{}: warning: without -fopenmp this OpenMP is ignored, so the program is serial".format(*place),
-                  file=sys.stderr)
+def with_plain_lambdas(text: str, _: Target) -> Made:
+    """parallel algorithms hear which lambdas touch only their parameters"""
+    from compile import plain_lambdas
+    return plain_lambdas.rewritten(text), []
 
 
-def with_reducers(text, is_clang):
-    """The same, and what is refused."""
-    if "_Hyperobject" not in text:
-        return text, []
+# ---- Cilk ----
+
+def with_reducers(text: str, target: Target) -> Made:
+    """an attribute, which gcc's plugin reads, stands in place of the keyword"""
     from compile import reducers
-    return (text, reducers.refused(text)) if is_clang else (reducers.rewritten(text), [])
+    return (text, reducers.refused(text)) if target.is_clang else (reducers.rewritten(text), [])
 
 
-def with_spawns(text, words, is_clang, faults):
-    """The same, and the options for OpenMP with which it is compiled."""
-    if not CILK.search(text):
-        return text, words.openmp, faults
-    from compile import loops
+def without_attributes(text: str, _: Target) -> Made:
+    """no function is put into its caller, or left without hooks"""
+    from compile import attributes
+    return attributes.without(text), []
+
+
+def with_spawns(text: str, target: Target) -> Made:
+    """spawns, syncs, loops and scopes become calls of hooks"""
     from compile import spawns
-    if words.openmp:
-        faults = faults + spawns.refused(text, "Cilk can't be traced together with OpenMP")
-    elif is_clang and IS_CPLUSPLUS:
-        faults = faults + spawns.refused(text, "Cilk in C++ can be traced only with g++")
-    if not faults:
-        text, faults = spawns.rewritten(text, "c++" if IS_CPLUSPLUS else "clang" if is_clang else "gcc")
-    return text, ["-fopenmp"] if text.endswith(loops.INSTEAD_OF_TASK) else words.openmp, faults
+    if target.has_openmp:
+        return text, spawns.refused(text, "Cilk can't be traced together with OpenMP")
+    if target.is_clang and target.is_cplusplus:
+        return text, spawns.refused(text, "Cilk in C++ can be traced only with g++")
+    language = "c++" if target.is_cplusplus else "clang" if target.is_clang else "gcc"
+    made, faults = spawns.rewritten(text, language)
+    return made + INSTEAD_OF_TASK * (language == "gcc" and "_Cilk_for" in text), faults
 
 
-def rewritten(text, words, is_clang):
-    """The text that is compiled, the options for OpenMP, and a line for each thing that can't be traced."""
-    faults = []
-    if may_have_assembly(text):
-        from compile import assembly
-        text = assembly.outside(text)
-    if not words.openmp:
-        warn_of_ignored(text, words)
-    elif OPENMP.search(text):
-        from compile import openmp
-        text, faults = openmp.rewritten(text, is_clang)
-    if IS_CPLUSPLUS:
-        text = without_instances(text)
-        if ALGORITHMS.search(text):
-            from compile import plain_lambdas
-            text = plain_lambdas.rewritten(text)
-    text, refused = with_reducers(text, is_clang)
-    if ATTRIBUTES.search(text):
-        from compile import attributes
-        text = attributes.without(text)
-    return with_spawns(text, words, is_clang, faults + refused)
+STEPS = [
+    Step("assembly", lambda text, _: may_have_assembly(text), with_assembly),
+    Step("ignored OpenMP", lambda text, target: target.warns and OPENMP.search(text), with_warning),
+    Step("OpenMP", lambda text, target: target.has_openmp and OPENMP.search(text), with_openmp),
+    Step("strings", lambda text, target: target.is_cplusplus and STRINGS.search(text), without_instances),
+    Step("plain lambdas", lambda text, target: target.is_cplusplus and ALGORITHMS.search(text), with_plain_lambdas),
+    Step("reducers", lambda text, _: "_Hyperobject" in text, with_reducers),
+    Step("attributes", lambda text, _: ATTRIBUTES.search(text), without_attributes),
+    Step("Cilk", lambda text, _: CILK.search(text), with_spawns)]
+
+
+def taken(text: str, target: Target) -> Iterator[tuple[Step, str, list[str]]]:
+    """Each step that the source takes, and what it makes."""
+    for step in STEPS:
+        if step.is_taken(text, target):
+            text, faults = step.rewrite(text, target)
+            yield step, text, faults
+
+
+def has_tasks(text: str) -> bool:
+    """Whether the rewritten source is compiled with OpenMP, whatever the command says."""
+    return text.endswith(INSTEAD_OF_TASK)

@@ -1,25 +1,34 @@
 """The global symbols of objects, of archives' members and of shared libraries: 64-bit ELF of little endian. `nm` would
 load the plugins of all compilers that are here, for each call."""
+from __future__ import annotations
+
 import mmap
 import os
 import struct
+from collections.abc import Iterator
 
 # What a symbol is, as nm calls it: code, a weak function, data, weak data, or not defined.
-CODE, WEAK_CODE, DATA, WEAK_DATA, UNDEFINED = "TWDVU"
+CODE, WEAK_CODE, DATA, WEAK_DATA, UNDEFINED = "T", "W", "D", "V", "U"
 SYMBOLS, DYNAMIC_SYMBOLS, LONG_INDEXES = 2, 11, 18
 WEAK, OBJECT, THREAD_LOCAL, FUNCTION_BY_FUNCTION = 2, 1, 6, 10
 EXECUTED = 4
 # Where the section's number is none, or stands elsewhere.
 NO_SECTION, ELSEWHERE = 0xff00, 0xffff
 
+TYPE_CHECKING = False
+if TYPE_CHECKING:
+    from typing import Union
+    Bytes = Union[bytes, mmap.mmap]
+    # The type, the flags, the place, the length, the linked section and the first global symbol.
+    Section = tuple[int, int, int, int, int, int]
 
-def opened(file):
+
+def opened(file: str) -> mmap.mmap:
     with open(file, "rb") as read:
         return mmap.mmap(read.fileno(), 0, access=mmap.ACCESS_READ)
 
 
-def sections_of(data):
-    """The type, the flags, the place, the length, the linked section and the first global symbol of each."""
+def sections_of(data: Bytes) -> list[Section]:
     if data[:4] != b"\x7fELF":
         return []
     start, = struct.unpack_from("<Q", data, 0x28)
@@ -31,7 +40,7 @@ def sections_of(data):
     return [(kind, flags, at, length, link, first) for _, kind, flags, _, at, length, link, first, *_ in rows]
 
 
-def symbols_of(data, is_dynamic=False):
+def symbols_of(data: Bytes, is_dynamic: bool = False) -> Iterator[tuple[str, str]]:
     """The name of each, and what it is."""
     sections = sections_of(data)
     for kind, _, at, length, link, first in sections:
@@ -47,7 +56,7 @@ def symbols_of(data, is_dynamic=False):
                 yield texts[name:texts.index(b"\0", name)].decode(errors="surrogateescape"), what(about, section, sections)
 
 
-def what(about, section, sections):
+def what(about: int, section: int, sections: list[Section]) -> str:
     binding, kind = about >> 4, about & 15
     if section == 0:
         return UNDEFINED
@@ -57,7 +66,7 @@ def what(about, section, sections):
     return CODE if is_code else DATA
 
 
-def members_of(file):
+def members_of(file: str) -> Iterator[tuple[str, bytes]]:
     """The name and the bytes of each member of an archive. Those of a thin one are files of their own for the linker."""
     data, at, names = opened(file), len("!<arch>\n"), b""
     while at + 60 <= len(data):

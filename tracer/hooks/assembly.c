@@ -14,9 +14,10 @@ void __spbags_asm(const volatile void *at, unsigned long size, int writes, int l
         leave_guard(ATOMIC);
 }
 
-/* One outside of functions, or that is a whole function. */
-void __spbags_asm_outside(const char *place) {
-    if (doing.tracing)
+/* One outside of functions, or that is a whole function. Where the plugin understands the text there is no place. */
+void __spbags_asm_outside(const char *place, const char *text) {
+    (void)text;
+    if (doing.tracing && place)
         tell_incomplete("%s: the assembly here may access memory, and isn't seen", place);
 }
 

@@ -259,8 +259,9 @@ class OptionsTest(LinkTest):
         said = self.succeeds(sys.executable, "-IS", "-X", "importtime", SPBAGS_CC, *cases.DETECTOR, "-o", "small",
                              "small.c").errors
         modules = {line.rpartition("|")[2].strip() for line in said.splitlines()}
-        self.assertEqual({"rewriting", "linked"},
-                         modules & {"rewriting", "linked", "tokens", "spawns", "subprocess", "tempfile"})
+        self.assertEqual({"compile.steps", "compile.link_inputs"},
+                         modules & {"compile.steps", "compile.link_inputs", "compile.spawns", "tokens", "typing", "subprocess",
+                                    "tempfile"})
 
     def test_standard_input(self):
         self.succeeds("bash", "-c", '"$@" -xc -o from_input - <fib.c', "bash", SPBAGS_CC, *cases.DETECTOR)

@@ -30,6 +30,12 @@ static HOST_WIDE_INT least_memory(gasm *assembly) {
     return least;
 }
 
+void judge_assembly_outside(gcall *call) {
+    const char *text = c_getstr(gimple_call_arg(call, 1));
+    if (text && template_facts_of(text, false, false, ASSEMBLER_DIALECT).is_understood)
+        gimple_call_set_arg(call, 0, null_pointer_node);
+}
+
 void find_in_assembly(accesses &all, gasm *assembly) {
     HOST_WIDE_INT least = least_memory(assembly);
     template_facts facts =

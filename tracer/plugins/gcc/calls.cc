@@ -1,5 +1,6 @@
 #include "calls.h"
 
+#include "assembly.h"
 #include "vectors.h"
 
 /* ---- Atomic operations ---- */
@@ -182,6 +183,11 @@ static bool find_in_builtin(accesses &all, gcall *call) {
     return true;
 }
 
+static bool tells_of_assembly(gcall *call) {
+    tree callee = gimple_call_fndecl(call);
+    return callee && DECL_NAME(callee) && id_equal(DECL_NAME(callee), "__spbags_asm_outside");
+}
+
 void find_in_call(accesses &all, gcall *call) {
     if (gimple_call_internal_p(call)) {
         if (gimple_call_internal_fn(call) == IFN_VA_ARG)
@@ -190,6 +196,8 @@ void find_in_call(accesses &all, gcall *call) {
             /* OpenMP's atomic updates. The lowest byte is the size. */
             note_compare(all, call, gimple_call_arg(call, 0), gimple_call_arg(call, 1),
                          number_of(tree_to_shwi(gimple_call_arg(call, 3)) & 255));
+    } else if (tells_of_assembly(call)) {
+        judge_assembly_outside(call);
     } else if (!find_in_builtin(all, call)) {
         for (unsigned at = 0; at < gimple_call_num_args(call); at++)
             if (!is_gimple_reg_type(TREE_TYPE(gimple_call_arg(call, at))))

@@ -76,6 +76,13 @@ static std::vector<operand> operands_of(CallBase *assembly, const InlineAsm::Con
     return found;
 }
 
+void judge_assembly_outside(CallBase *call) {
+    StringRef text;
+    if (getConstantStringInfo(call->getArgOperand(1), text) &&
+        template_facts_of(text.str(), false, false, 0).is_understood)
+        call->setArgOperand(0, Constant::getNullValue(call->getArgOperand(0)->getType()));
+}
+
 void find_in_assembly(accesses &all, CallBase *assembly) {
     auto *text = cast<InlineAsm>(assembly->getCalledOperand());
     InlineAsm::ConstraintInfoVector constraints = text->ParseConstraints();

@@ -6,4 +6,7 @@
 
 void find_in_assembly(accesses &all, llvm::CallBase *assembly);
 
+/* A call that tells of assembly outside of functions: it tells nothing if the text is understood. */
+void judge_assembly_outside(llvm::CallBase *call);
+
 #endif

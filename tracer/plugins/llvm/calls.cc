@@ -139,6 +139,8 @@ void find_in_call(accesses &all, CallBase *call) {
         find_in_intrinsic(all, intrinsic);
     else if (callee && callee->isDeclaration() && begins_with(callee->getName(), "__atomic_"))
         atomic_operation(all, call, callee->getName()).find();
+    else if (callee && callee->getName() == "__spbags_asm_outside")
+        judge_assembly_outside(call);
     else
         find_in_arguments(all, call);
 }
