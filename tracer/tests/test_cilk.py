@@ -9,23 +9,6 @@ sys.dont_write_bytecode = True
 import cases
 from cases import (CC, INSIDE, SPBAGS_CC, SPBAGS_RUN, TESTS, TRACER, TracerTest, by_call, line_of, lines_of, race_of)
 
-DIGRAPHS = """#include <cilk/cilk.h>
-int count, many<:3:>;
-static void up(void) <%
-    many<:1:>++; /* [first] */
-    __asm__("incl %0" : "+m"(many<:2:>));
-%>
-int main(void) <%
-    for (int i = 0; i < 1; i++) <% cilk_spawn up(); %>
-    many<:1:> = 1; /* [second] */
-    cilk_sync;
-    cilk_for (int i = 0; i < 2; i++) <%
-        count = i; /* [loop] */
-    %>
-    if (count) <% __asm__("incl many"); %>
-    return 0;
-%>
-"""
 INTEL = r"""#include <cilk/cilk.h>
 #include <stdio.h>
 int cell;
@@ -195,13 +178,6 @@ class CompileTest(TracerTest):
         self.succeeds(CC, "-o", "plain", "math.c")
         self.succeeds(SPBAGS_CC, "-o", "math", "math.c")
         self.succeeds("./math")
-
-    def test_digraphs(self):
-        self.write("digraphs.c", DIGRAPHS)
-        self.succeeds(SPBAGS_CC, "-o", "digraphs", "digraphs.c")
-        first, second, loop = (line_of("digraphs.c", f"[{tag}]") for tag in ("first", "second", "loop"))
-        self.assertEqual(cases.as_races([(1, first, second), (1, loop, loop)]),
-                         self.races_in("digraphs.c", "./digraphs"))
 
     def test_macros(self):
         text = "#include <cilk/cilk.h>\nstatic void f(void) {}\nint main(void) { cilk_spawn f(); cilk_sync; return 0; }\n"
