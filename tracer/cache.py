@@ -30,6 +30,7 @@ def keep_modules() -> None:
 def digest(about: object, files: Iterable[str]) -> str:
     """A hash of what something is made of: what there is to say about it, and these files."""
     import hashlib
+
     found = hashlib.sha256(repr(about).encode())
     for name in files:
         with open(name, "rb") as file:
@@ -49,6 +50,7 @@ class Kept:
     def made(self, name: str, make: Callable[[], str], doing: str) -> str:
         import contextlib
         import fcntl
+
         try:
             os.makedirs(self.folder, exist_ok=True)
             lock = open(os.path.join(self.folder, "lock"), "w")
@@ -66,8 +68,10 @@ class Kept:
         return next((name for name in names if os.path.exists(name)), None)
 
     def cannot(self, error: OSError, doing: str) -> None:
-        why = (f"{self.folder} can't be written ({error.strerror}); the environment variable XDG_CACHE_HOME names another "
-               "folder")
+        why = (
+            f"{self.folder} can't be written ({error.strerror}); the environment variable XDG_CACHE_HOME names another "
+            "folder"
+        )
         if self.ahead:
             self.fail(why)
         if doing:
@@ -77,6 +81,7 @@ class Kept:
         """Makes it, and copies it to where others find it whole or not at all."""
         import contextlib
         import shutil
+
         if doing:
             self.say(f"{doing}, once")
         made, kept = make(), os.path.join(self.folder, name)

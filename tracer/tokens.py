@@ -16,7 +16,8 @@ TOKEN = re.compile(
     r"|(?P<number>\.?[0-9](?:[eEpP][+-]|'(?=\w)|[0-9A-Za-z_.])*)"
     r"|(?P<word>[A-Za-z_$\x80-\uffff][A-Za-z0-9_$\x80-\uffff]*)"
     r"|(?P<mark><%|%>|<:(?!:[^:>])|:>|\.\.\.|<<=|>>=|->|\+\+|--|<<|>>|[-+*/%&|^=!<>]=|&&|::|\|\||.)",
-    re.MULTILINE)
+    re.MULTILINE,
+)
 LINE_MARKER = re.compile(r'#(?:line)? *([0-9]+) *("(?:\\.|[^"\\])*")?([ 0-9]*)')
 ASSIGNMENTS = {"=", "+=", "-=", "*=", "/=", "%=", "&=", "|=", "^=", "<<=", ">>="}
 PARTNERS = {")": "(", "]": "[", "}": "{"}
@@ -53,7 +54,7 @@ class Token:
         self.system = system  # whether it stands in a header of the system
         self.end = start + len(text)
         self.partner: Any = None  # of a bracket: the index of the other one, or None
-        self.around: Any = None   # the index of the innermost bracket around it, or None
+        self.around: Any = None  # the index of the innermost bracket around it, or None
 
     def marker(self, flags: str = "") -> str:
         """Puts what follows on this token's line of the program."""
@@ -99,7 +100,7 @@ def blanked(text: str) -> str:
     while mark:
         bracket, literal, end = DIGRAPHS.get(mark[0]), None, mark.end()
         if bracket:
-            made += [text[done:mark.start()], bracket + " "]
+            made += [text[done : mark.start()], bracket + " "]
             done = end
         else:
             literal = literal_at(text, mark.start())
@@ -114,7 +115,7 @@ def without(text: str, pattern: re.Pattern[str]) -> str:
     """The text without what this matches outside of strings."""
     made, done = [], 0
     for found in pattern.finditer(blanked(text)):
-        made.append(text[done:found.start()])
+        made.append(text[done : found.start()])
         done = found.end()
     return "".join(made) + text[done:]
 
@@ -240,9 +241,9 @@ def own_constants(tokens: list[Token], first: int, name: int) -> list[Token]:
 
 def piece(text: str, first: Token, last: Token, without: Iterable[Token] = ()) -> str:
     """The program's text from one token to another, on its own lines, with space in place of some tokens."""
-    start, found = first.start, text[first.start:last.end]
+    start, found = first.start, text[first.start : last.end]
     for token in without:
-        found = found[:token.start - start] + " " * len(token.text) + found[token.end - start:]
+        found = found[: token.start - start] + " " * len(token.text) + found[token.end - start :]
     return first.marker() + found
 
 

@@ -9,8 +9,9 @@ from bisect import bisect_left
 from compile.line_markers import Files
 from tokens import BRACKET, CONTROLS, Token, after_bracket, blanked, match_brackets
 
-ASM = re.compile(r"\b(?:asm|__asm__|__asm)\s*"
-                 r"((?:(?:volatile|__volatile__|__volatile|inline|__inline__|__inline|goto)\s*)*)\(")
+ASM = re.compile(
+    r"\b(?:asm|__asm__|__asm)\s*" r"((?:(?:volatile|__volatile__|__volatile|inline|__inline__|__inline|goto)\s*)*)\("
+)
 DIRECTIVE = re.compile(r"^#[^\n]*", re.MULTILINE)
 # What a statement follows; and the words before a bracket that one follows.
 BEFORE_STATEMENT = re.compile(r"(?:^|[;{}:]|\b(?:else|do|__extension__)|\]\s*\])\Z")
@@ -35,8 +36,9 @@ class Source:
     def before(self, at: int) -> int:
         """The index of the last bracket before this place, or -1."""
         if not self.brackets:
-            self.brackets = [Token("mark", found[0], found.start(), "", 0, False)
-                             for found in BRACKET.finditer(self.bare)]
+            self.brackets = [
+                Token("mark", found[0], found.start(), "", 0, False) for found in BRACKET.finditer(self.bare)
+            ]
             match_brackets(self.brackets)
             self.places = [bracket.start for bracket in self.brackets]
         return bisect_left(self.places, at) - 1
@@ -60,12 +62,15 @@ class Source:
     def is_in_function(self, at: int) -> bool:
         """Whether a statement may stand here: in a function, other than one whose whole code is assembly."""
         starts = [bracket.start for bracket in self.around(at) if bracket.text == "{"]
-        return any(not OUTER.search(self.bare, max(start - NEAR, 0), start) and
-                   not NAKED.search(self.bare, max(start - NEAR, 0), start) for start in starts)
+        return any(
+            not OUTER.search(self.bare, max(start - NEAR, 0), start)
+            and not NAKED.search(self.bare, max(start - NEAR, 0), start)
+            for start in starts
+        )
 
     def begins_statement(self, at: int) -> bool:
         """Whether what stands here is a statement, and no name that a declaration gives."""
-        before = self.bare[max(at - NEAR, 0):at].rstrip()
+        before = self.bare[max(at - NEAR, 0) : at].rstrip()
         closing = max(at - NEAR, 0) + len(before) - 1
         if not before.endswith(")"):
             return bool(BEFORE_STATEMENT.search(before))
@@ -86,13 +91,18 @@ def outside(text: str) -> str:
     source, files, found = Source(text), Files(text), []
     for match in ASM.finditer(source.bare):
         end = after_bracket(source.bare, match.end() - 1)
-        if end is not None and (match[1] or source.begins_statement(match.start())) and \
-                not source.is_in_function(match.start()):
+        if (
+            end is not None
+            and (match[1] or source.begins_statement(match.start()))
+            and not source.is_in_function(match.start())
+        ):
             found.append(("{}:{}".format(*files.place(match.start())), template(source, match.end(), end - 1)))
     return text + "".join(told(number, *each) for number, each in enumerate(found))
 
 
 def told(number: int, place: str, text: str) -> str:
     """What says where assembly stands, of which no call is known."""
-    return f'\n__attribute__((__constructor__)) static void __spbags_asm_of_{number}(void) {{ ' \
-           f'__spbags_asm_outside("{place}", __extension__({text})); }}\n'
+    return (
+        f"\n__attribute__((__constructor__)) static void __spbags_asm_of_{number}(void) {{ "
+        f'__spbags_asm_outside("{place}", __extension__({text})); }}\n'
+    )

@@ -12,8 +12,11 @@ from tokens import BRACKET, PARTNERS, after_bracket, blanked
 # A function that spawns and is put into its caller would have no end to sync at.
 INLINED = {"always_inline", "__always_inline__"}
 # The tracer's own headers have functions that need no hooks.
-UNSEEN = {f"{sign}{name}{sign}" for sign in ("", "__")
-          for name in ("no_sanitize", "no_sanitize_thread", "disable_sanitizer_instrumentation")}
+UNSEEN = {
+    f"{sign}{name}{sign}"
+    for sign in ("", "__")
+    for name in ("no_sanitize", "no_sanitize_thread", "disable_sanitizer_instrumentation")
+}
 STEM = re.compile("always_inline|no_sanitize|disable_sanitizer_instrumentation")
 WORD = re.compile(r"(?<![\w$])[\w$]+")
 # How far back the attribute may begin.
@@ -21,17 +24,19 @@ NEAR = 5000
 
 # clang has a pragma that gives such an attribute to functions elsewhere.
 PRAGMA = re.compile(r"#[ \t]*pragma[ \t]+clang[ \t]+attribute\b.*")
-FROM_PRAGMA = re.compile(rf"(\b(?:gnu|clang)\s*::\s*)?\b(?:{'|'.join(sorted(INLINED | UNSEEN))})\b"
-                         r"(?:\s*\((?:[^()]|\([^()]*\))*\))?")
+FROM_PRAGMA = re.compile(
+    rf"(\b(?:gnu|clang)\s*::\s*)?\b(?:{'|'.join(sorted(INLINED | UNSEEN))})\b" r"(?:\s*\((?:[^()]|\([^()]*\))*\))?"
+)
 
 
 def without_pragmas(text: str) -> str:
     """The source in which no pragma gives such an attribute, but one that does nothing."""
     made, done = [], 0
     for found in PRAGMA.finditer(blanked(text)) if PRAGMA.search(text) else ():
-        pragma = FROM_PRAGMA.sub(lambda name: ("clang::" if name[1] else "") + 'annotate("")',
-                                 text[found.start():found.end()])
-        made += [text[done:found.start()], pragma]
+        pragma = FROM_PRAGMA.sub(
+            lambda name: ("clang::" if name[1] else "") + 'annotate("")', text[found.start() : found.end()]
+        )
+        made += [text[done : found.start()], pragma]
         done = found.end()
     return "".join(made) + text[done:]
 
@@ -54,14 +59,19 @@ def is_in_attribute(bare: str, at: int) -> bool:
     opening = opening_around(bare, at)
     if opening is None:
         return False
-    before = bare[max(opening - NEAR, 0):opening].rstrip()
-    return before.endswith("[") and bare[opening] == "[" or \
-        before.endswith("(") and bare[opening] == "(" and before[:-1].rstrip().endswith(("__attribute__", "__attribute"))
+    before = bare[max(opening - NEAR, 0) : opening].rstrip()
+    return (
+        before.endswith("[")
+        and bare[opening] == "["
+        or before.endswith("(")
+        and bare[opening] == "("
+        and before[:-1].rstrip().endswith(("__attribute__", "__attribute"))
+    )
 
 
 def end_of_arguments(bare: str, at: int) -> int:
     """The end of the brackets behind a word that ends here, if there are any."""
-    opening = at + len(bare[at:at + NEAR]) - len(bare[at:at + NEAR].lstrip())
+    opening = at + len(bare[at : at + NEAR]) - len(bare[at : at + NEAR].lstrip())
     return after_bracket(bare, opening) or at if bare.startswith("(", opening) else at
 
 
@@ -76,7 +86,7 @@ def words_in(text: str) -> Iterator[re.Match[str]]:
 def near(text: str, at: int, is_whole: bool) -> tuple[str, int]:
     """The text without what is in strings, or as much of it as is near, and where that begins."""
     begin = 0 if is_whole else text.rfind("\n", 0, max(at - NEAR, 0)) + 1
-    return blanked(text if is_whole else text[begin:at + NEAR]), begin
+    return blanked(text if is_whole else text[begin : at + NEAR]), begin
 
 
 def without(text: str) -> str:
@@ -90,8 +100,13 @@ def without(text: str) -> str:
             continue
         bare, begin = near(text, found.start(), is_whole)
         at = found.start() - begin
-        if found.start() < done or not bare.startswith(found[0], at) or not is_inlined and not is_in_attribute(bare, at):
+        if (
+            found.start() < done
+            or not bare.startswith(found[0], at)
+            or not is_inlined
+            and not is_in_attribute(bare, at)
+        ):
             continue
-        made += [text[done:found.start()], "__unused__"]
+        made += [text[done : found.start()], "__unused__"]
         done = found.end() if is_inlined else begin + end_of_arguments(bare, found.end() - begin)
     return "".join(made) + text[done:]

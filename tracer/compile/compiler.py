@@ -17,9 +17,7 @@ if TYPE_CHECKING:
 # The headers of oneTBB have two names, tbb/NAME and oneapi/tbb/NAME.
 INCLUDES = [f"-I{HERE}/include", f"-I{HERE}/include/oneapi"]
 # addr2line of binutils 2.40 takes some files of DWARF 5 for others.
-PLAIN = (
-    "-g -gdwarf-4 -fno-inline -fno-omit-frame-pointer -fno-optimize-sibling-calls -fno-builtin -fno-lto".split()
-)
+PLAIN = "-g -gdwarf-4 -fno-inline -fno-omit-frame-pointer -fno-optimize-sibling-calls -fno-builtin -fno-lto".split()
 # Some processors are slow where a branch crosses such a boundary.
 ALIGNED, ALIGNED_CLANG = "-Wa,-mbranches-within-32B-boundaries", "-mbranches-within-32B-boundaries"
 # Each variable keeps memory of its own, and arguments on the stack are pushed for each call. What the plugin puts there
@@ -63,6 +61,7 @@ class Compiler:
     @property
     def target(self) -> steps.Target:
         from compile import steps
+
         warns = not {"-w", "-Wno-unknown-pragmas"} & set(self.words.compiling)
         return steps.Target(IS_CPLUSPLUS, self.is_clang, bool(self.words.openmp), warns)
 
@@ -91,6 +90,7 @@ class Compiler:
                 run(*self.command, *self.words.compiling, "-c", source, "-o", object_name)
             return
         from compile import steps
+
         faults: list[str] = []
         text_name = self.text_name(source, folder)
         text = self.preprocessed(source, text_name, object_name)
@@ -109,6 +109,7 @@ class Compiler:
         if source.endswith(ASSEMBLY):
             return ["compile: as it is"]
         from compile import steps
+
         text = self.preprocessed(source, self.text_name(source, folder), None)
         rewritten = [f"{step.name}: {step.rewrite.__doc__}" for step, *_ in steps.taken(text, self.target)]
         return ["preprocess: with the tracer's headers", *rewritten, "compile: a plugin puts hooks into the code"]
@@ -116,6 +117,7 @@ class Compiler:
     def compile_rewritten(self, text_name: str, openmp: list[str], ends_with: str, to: str | None, folder: str) -> None:
         """Compiles a rewritten source into what ends here. The plugin puts the hooks into its code."""
         from compile import plugin
+
         command = [*self.command, *self.words.compiling, *openmp, self.words.level]
         command += TRACED_CLANG if self.is_clang else TRACED_GCC
         checks = CHECKS if self.words.inline_checks and to else None
@@ -126,6 +128,7 @@ class Compiler:
     def plugin(self, folder: str) -> str:
         """The plugin for this compiler. A compiler of C++ has that of the compiler of C beside it."""
         from compile import plugin
+
         name = f"plugin_{plugin.digest(self.about.replace('g++', 'gcc'), self.is_clang)}.so"
         doing = f"building the plugin for {self.command[0]}, in some 20 s of processor time"
         return self.kept.file(name, lambda: plugin.build(self.command, self.is_clang, folder), doing)

@@ -31,8 +31,10 @@ def is_built() -> bool:
 def detector_library() -> str:
     """The name of the detector's library, where it is built or can be."""
     if not (os.path.exists(ARCHIVE) if IS_INSTALLED else is_built()):
-        fail("the detector isn't built, and can't be here. With --trace this works without it: then the program only "
-             "writes traces, and spbags-run has spbags check them")
+        fail(
+            "the detector isn't built, and can't be here. With --trace this works without it: then the program only "
+            "writes traces, and spbags-run has spbags check them"
+        )
     return ARCHIVE
 
 
@@ -68,6 +70,7 @@ class Hooks:
         from concurrent.futures import ThreadPoolExecutor
 
         from compile import library
+
         table = library.Table()
         for name, text in (("library_names.h", table.declarations()), ("library_wrappers.h", table.wrappers())):
             with open(os.path.join(self.folder, name), "w", encoding="utf-8") as file:
@@ -83,10 +86,14 @@ class Hooks:
         # where code comes from has a stub, also if the hooks see what is read there. The names by which the hooks' files
         # know each other are none of the program's.
         inner = {name for name in link_inputs.names_of(made) if not FOR_PROGRAMS.match(name)} - OWN
-        run("objcopy", *[f"--weaken-symbol=__wrap_{name}" for name in link_inputs.GIVES_CODE],
+        run(
+            "objcopy",
+            *[f"--weaken-symbol=__wrap_{name}" for name in link_inputs.GIVES_CODE],
             *[f"--localize-symbol={name}" for name in sorted(inner)],
             *[f"--redefine-sym={name}=__real_{name}" for name in ("memcpy", "memmove", "memset")],
-            *[f"--rename-section=.text{part}=spbags_hooks" for part in ("", ".unlikely", ".startup", ".exit")], made)
+            *[f"--rename-section=.text{part}=spbags_hooks" for part in ("", ".unlikely", ".startup", ".exit")],
+            made,
+        )
         return made
 
     @functools.cached_property
@@ -101,10 +108,12 @@ class Hooks:
 
     def detector(self, library: str) -> str:
         """The detector's object. What its compiler calls there is no call of the program."""
+
         def make() -> str:
             made = os.path.join(self.folder, "inside.o")
             # CMake takes an archive for a part of the language, which it would link by other compilers too.
             run("ld", "-r", "--whole-archive", library, "-o", made)
             run("objcopy", *[f"--redefine-sym={name}=__real_{name}" for name in self.wrapped], made)
             return made
+
         return self.compiler.kept.file(f"inside-{cache.digest(self.wrapped, [library])}.o", make)

@@ -49,11 +49,18 @@ class Function:
 
     def notes(self, name: str, after: bool) -> list[str]:
         """The block of the hooks' calls before the function, or after it."""
-        made = [note_of(kind, item, "__wrap_" + name) for kind, items in (("READ", self.reads), ("WRITE", self.writes))
-                for item in items if not item[0].startswith(LOCK) and is_after(item) == after]
+        made = [
+            note_of(kind, item, "__wrap_" + name)
+            for kind, items in (("READ", self.reads), ("WRITE", self.writes))
+            for item in items
+            if not item[0].startswith(LOCK) and is_after(item) == after
+        ]
         if made and self.lock:
-            made = [f'enter_guard((uintptr_t)state({self.lock}), "the lock of {self.lock}");', *made,
-                    f"leave_guard((uintptr_t)state({self.lock}));"]
+            made = [
+                f'enter_guard((uintptr_t)state({self.lock}), "the lock of {self.lock}");',
+                *made,
+                f"leave_guard((uintptr_t)state({self.lock}));",
+            ]
         return ["    if (doing.tracing) {", *("        " + note for note in made), "    }"] if made else []
 
     def takes_list(self) -> bool:
@@ -76,8 +83,19 @@ class Function:
         call, answer = f"__real_{real}({', '.join(arguments)});", []
         if self.result != "void":
             call, answer = f"{self.result} result = {call}", ["    return result;"]
-        return "\n".join([self.declared("__wrap_" + name) + " {", *begin, *self.notes(name, False), "    " + call,
-                          *self.notes(name, True), *end, *answer, "}", ""])
+        return "\n".join(
+            [
+                self.declared("__wrap_" + name) + " {",
+                *begin,
+                *self.notes(name, False),
+                "    " + call,
+                *self.notes(name, True),
+                *end,
+                *answer,
+                "}",
+                "",
+            ]
+        )
 
 
 def is_after(item: list[str]) -> bool:
@@ -148,8 +166,13 @@ class Section:
 def silent() -> set[str]:
     """The functions that touch no memory that the program shares."""
     with open(TABLE, encoding="utf-8") as file:
-        return {name for line in file if line.startswith("+ ") for word, _ in WORD.findall(line[2:])
-                for name in with_endings(word)}
+        return {
+            name
+            for line in file
+            if line.startswith("+ ")
+            for word, _ in WORD.findall(line[2:])
+            for name in with_endings(word)
+        }
 
 
 class Table:
@@ -170,7 +193,9 @@ class Table:
     def shared(self) -> dict[str, list[str]]:
         """What each function shares by its manual page."""
         found = {word: shared for section in self.sections for word, shared in section.shared.items()}
-        return found | {name: function.shared for function in self.functions() for name in function.names if function.shared}
+        return found | {
+            name: function.shared for function in self.functions() for name in function.names if function.shared
+        }
 
     def functions(self) -> list[Function]:
         return [function for section in self.sections for function in section.functions]
@@ -184,8 +209,11 @@ class Table:
         for function in self.functions():
             for name in function.names:
                 brackets = "(...)" if name in TAGS else ""
-                lines += ["__attribute__((weak)) " + function.declared("__real_" + name) + ";", f"#undef {name}",
-                          f"#define {name}{brackets} __real_{name}{brackets.replace('...', '__VA_ARGS__')}"]
+                lines += [
+                    "__attribute__((weak)) " + function.declared("__real_" + name) + ";",
+                    f"#undef {name}",
+                    f"#define {name}{brackets} __real_{name}{brackets.replace('...', '__VA_ARGS__')}",
+                ]
         return "\n".join(lines) + "\n"
 
     def wrappers(self) -> str:

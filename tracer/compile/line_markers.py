@@ -71,5 +71,6 @@ def markers(text: str) -> Iterator[re.Match[str]]:
     if not has_raw_strings(text):
         return found
     from tokens import blanked
+
     bare = blanked(text)
     return (marker for marker in found if bare.startswith("#", marker.start()))

@@ -53,6 +53,7 @@ class Link:
     def stubs(self, found: link_inputs.Linked, hooks: Hooks) -> list[str]:
         """The words that have calls of unknown functions counted."""
         from compile import library
+
         unknown = found.unknown(library.silent(), hooks.names.union(hooks.wrapped))
         virtual = found.virtual()
         if not unknown and not virtual:
@@ -72,8 +73,13 @@ class Link:
             self.words.openmp = self.words.openmp or ["-fopenmp"]
         hooks = Hooks(self.compiler, self.folder)
         self.refuse(found, hooks)
-        own = [*self.stubs(found, hooks), *link_inputs.wrapping(found, hooks.wrapped, self.folder), *items, hooks.object,
-               *([hooks.detector(library), "-ldl", "-lpthread"] if library else [])]
+        own = [
+            *self.stubs(found, hooks),
+            *link_inputs.wrapping(found, hooks.wrapped, self.folder),
+            *items,
+            hooks.object,
+            *([hooks.detector(library), "-ldl", "-lpthread"] if library else []),
+        ]
         status, said = heard([*self.command, "-no-pie", *own, "-o", self.output], 2)
         sys.stderr.write(said)
         explain(said)
@@ -97,8 +103,10 @@ class Link:
         found = link_inputs.Linked(link_inputs.parts_of(link, self.folder) or [])
         other = next((part for part in found.others if not part.is_system), None)
         if other and found.traced:
-            fail(f"{other.name()}: spbags-cc didn't compile this, and one object can't hold it together with traced "
-                 "code: compile it with spbags-cc, or leave it out here")
+            fail(
+                f"{other.name()}: spbags-cc didn't compile this, and one object can't hold it together with traced "
+                "code: compile it with spbags-cc, or leave it out here"
+            )
         run(*link, "-o", self.output)
 
 
@@ -109,11 +117,14 @@ def explain(errors: str) -> None:
         fail("the tracer has its own operator delete, so that no memory is used again: leave out the program's")
     if "undefined reference" in errors:
         from compile import openmp
+
         for line in openmp.unknown(errors):
             say(line)
     if own:
-        fail(f"the tracer has its own {own[0]}, so that no memory is used again: leave out the program's, or "
-             f"give it another name, as with -D{own[0]}=own_{own[0]}")
+        fail(
+            f"the tracer has its own {own[0]}, so that no memory is used again: leave out the program's, or "
+            f"give it another name, as with -D{own[0]}=own_{own[0]}"
+        )
 
 
 def has_openmp(compiler: Compiler) -> bool:
@@ -127,8 +138,14 @@ def compile_hooks() -> None:
     import shutil
 
     from compile import plugin
+
     named = named_compiler()
-    forms: tuple[tuple[list[str], list[str]], ...] = (([], []), ([], [TRACE]), (["-fopenmp"], []), (["-fopenmp"], [TRACE]))
+    forms: tuple[tuple[list[str], list[str]], ...] = (
+        ([], []),
+        ([], [TRACE]),
+        (["-fopenmp"], []),
+        (["-fopenmp"], [TRACE]),
+    )
     commands = [named] if named else [words for words in COMPILERS if shutil.which(words[0])]
     for command, (options, more) in itertools.product(commands, forms):
         compiler = Compiler(Words([*options, *more]), command)

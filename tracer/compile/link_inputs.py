@@ -16,8 +16,10 @@ if TYPE_CHECKING:
     from compile.symbols import Bytes
 
 # The libraries of the C compiler itself.
-SYSTEM = re.compile(r"(?:lib(?:c|m|mvec|pthread|dl|rt|util|resolv|crypt|nsl|anl|stdc\+\+|stdc\+\+fs|supc\+\+|gcc|"
-                    r"gcc_s|gcc_eh|gcov|ssp|atomic|quadmath|c_nonshared|pthread_nonshared|ssp_nonshared)|ld-linux-x86-64)[-.0-9]*\.(?:so|a)\b.*|crt\w+\.o|[gmSr]*crt1\.o")
+SYSTEM = re.compile(
+    r"(?:lib(?:c|m|mvec|pthread|dl|rt|util|resolv|crypt|nsl|anl|stdc\+\+|stdc\+\+fs|supc\+\+|gcc|"
+    r"gcc_s|gcc_eh|gcov|ssp|atomic|quadmath|c_nonshared|pthread_nonshared|ssp_nonshared)|ld-linux-x86-64)[-.0-9]*\.(?:so|a)\b.*|crt\w+\.o|[gmSr]*crt1\.o"
+)
 # What these give out is code that nothing is known of either.
 GIVES_CODE = {"dlsym", "dlvsym"}
 PARALLEL = re.compile("GOMP_|GOACC_|__kmpc_")
@@ -156,27 +158,22 @@ class Linked:
     def faults_of(self, part: Part, wrapped: set[str]) -> Iterator[str]:
         parallel = next((name for name in sorted(part.wanted) if PARALLEL.match(name)), None)
         if any(name.startswith("__tsan_") for name in part.wanted):
-            yield f"{part.name()}: an older spbags-cc, or another compiler with -fsanitize=thread, compiled this: " \
-                  "compile it again with spbags-cc"
+            yield f"{part.name()}: an older spbags-cc, or another compiler with -fsanitize=thread, compiled this: " "compile it again with spbags-cc"
         elif parallel:
-            yield f"{part.name()}: spbags-cc didn't compile this, and it has parallel code ({parallel}): compile it " \
-                  "with spbags-cc"
+            yield f"{part.name()}: spbags-cc didn't compile this, and it has parallel code ({parallel}): compile it " "with spbags-cc"
         elif part.is_for_lto():
-            yield f"{part.name()}: spbags-cc didn't compile this, and what it does isn't known before the link: " \
-                  "compile it with spbags-cc, or without -flto"
+            yield f"{part.name()}: spbags-cc didn't compile this, and what it does isn't known before the link: " "compile it with spbags-cc, or without -flto"
         else:
             yield from self.doubles(part, wrapped)
 
     def doubles(self, part: Part, wrapped: set[str]) -> Iterator[str]:
         """Functions that this file has and others take for their own, or that would be taken for the library's."""
         for name in sorted(wrapped & part.functions()):
-            yield f"{part.name()}: spbags-cc didn't compile this, and its {name} would be taken for the C library's: " \
-                  "compile it with spbags-cc"
+            yield f"{part.name()}: spbags-cc didn't compile this, and its {name} would be taken for the C library's: " "compile it with spbags-cc"
         for other in self.traced:
             taken = [name for name in part.functions() & other.functions() if part.is_taken_for(name, other)]
             if taken:
-                yield f"{part.name()}: spbags-cc didn't compile this, and its {min(taken)} is used in place of that of " \
-                      f"{other.name()}: compile it with spbags-cc, or put it after the other one"
+                yield f"{part.name()}: spbags-cc didn't compile this, and its {min(taken)} is used in place of that of " f"{other.name()}: compile it with spbags-cc, or put it after the other one"
 
     def unknown(self, known: set[str], hooks: set[str]) -> list[Unknown]:
         """The functions that traced files call and nothing is known of. KNOWN are those of the system's libraries, and
@@ -187,17 +184,26 @@ class Linked:
         for part in [*self.others, *self.libraries]:
             for name in wanted & part.defined.keys():
                 having.setdefault(name, part)
-        found = [(name, part) for name, part in sorted(having.items())
-                 if part.defined[name] in FUNCTIONS and not (part.is_system and name in known)]
+        found = [
+            (name, part)
+            for name, part in sorted(having.items())
+            if part.defined[name] in FUNCTIONS and not (part.is_system and name in known)
+        ]
         shown = demangled([name for name, _ in found])
-        return [Unknown(name, text, part.title(), not part.is_system or name in GIVES_CODE)
-                for (name, part), text in zip(found, shown)]
+        return [
+            Unknown(name, text, part.title(), not part.is_system or name in GIVES_CODE)
+            for (name, part), text in zip(found, shown)
+        ]
 
     def virtual(self) -> list[str]:
         """The classes of virtual functions that nothing is known of, which a program may call without a name."""
         asked = {name for part in self.traced for name in part.wanted if name.startswith("_ZTV")}
-        tables = {name for part in [*self.others, *self.libraries] if not part.is_system
-                  for name in asked & part.defined.keys()}
+        tables = {
+            name
+            for part in [*self.others, *self.libraries]
+            if not part.is_system
+            for name in asked & part.defined.keys()
+        }
         return [name.removeprefix("vtable for ") for name in demangled(sorted(tables))]
 
 
@@ -245,11 +251,23 @@ def stubs(unknown: list[Unknown], virtual: list[str]) -> str:
     text = [STUB.format(name=function.name, offset=at * size) for at, function in enumerate(unknown)]
     table = [*unknown, *(Unknown("", name, "", False) for name in virtual)]
     rows = [f"\t.quad .Lname{at}, .Lshown{at}, .Llibrary{at}, {int(row.always)}, 0\n" for at, row in enumerate(table)]
-    names = [f'.Lname{at}: .string "{row.name}"\n.Lshown{at}: .string "{quoted(row.shown)}"\n'
-             f'.Llibrary{at}: .string "{quoted(row.library)}"\n' for at, row in enumerate(table)]
-    return "".join(["\t.text\n", *text, "\t.data\n\t.balign 8\n\t.globl __spbags_unknown, __spbags_unknown_end\n",
-                    "__spbags_unknown:\n", *rows, "__spbags_unknown_end:\n\t.section .rodata\n", *names,
-                    '\t.section .note.GNU-stack,"",@progbits\n'])
+    names = [
+        f'.Lname{at}: .string "{row.name}"\n.Lshown{at}: .string "{quoted(row.shown)}"\n'
+        f'.Llibrary{at}: .string "{quoted(row.library)}"\n'
+        for at, row in enumerate(table)
+    ]
+    return "".join(
+        [
+            "\t.text\n",
+            *text,
+            "\t.data\n\t.balign 8\n\t.globl __spbags_unknown, __spbags_unknown_end\n",
+            "__spbags_unknown:\n",
+            *rows,
+            "__spbags_unknown_end:\n\t.section .rodata\n",
+            *names,
+            '\t.section .note.GNU-stack,"",@progbits\n',
+        ]
+    )
 
 
 def quoted(text: str) -> str:

@@ -12,6 +12,7 @@ from tokens import ASSIGNMENTS, CONTROLS, Refused, Token, is_in_block, outside, 
 TYPE_CHECKING = False
 if TYPE_CHECKING:
     from typing import Any, NoReturn
+
     # What is put in place of tokens, by the first and the last; or behind one.
     Edit = tuple[Any, ...]
 
@@ -29,8 +30,10 @@ KEEPS = "__spbags_frame __spbags_here;"
 
 def entered(token: Token) -> str:
     """What begins a scope of the hooks, which ends with the block around this."""
-    return ("__attribute__((cleanup(__spbags_leave), unused)) const char *__spbags_scope = "
-            f'__spbags_enter({token.file[:-1]}:{token.line}");')
+    return (
+        "__attribute__((cleanup(__spbags_leave), unused)) const char *__spbags_scope = "
+        f'__spbags_enter({token.file[:-1]}:{token.line}");'
+    )
 
 
 def statement_end(tokens: list[Token], at: int) -> int:
@@ -82,8 +85,10 @@ def begins_function(tokens: list[Token], opening: int) -> bool:
     before = before_qualifiers(tokens, opening)
     text = tokens[before].text
     if text in ("->", "::", ">", "*"):
-        return any(tokens[at].text in ("->", "requires") and tokens[at].around == tokens[opening].around
-                   for at in range(statement_start(tokens, opening), opening))
+        return any(
+            tokens[at].text in ("->", "requires") and tokens[at].around == tokens[opening].around
+            for at in range(statement_start(tokens, opening), opening)
+        )
     named = tokens[tokens[before].partner - 1] if text in (")", "}") else None
     if text == "}" and before == opening - 1:  # of a constructor's member `x{..}`
         return named.text == ">" or named.kind == "word" and named.text not in BEFORE_BLOCKS
@@ -118,8 +123,13 @@ def is_in_inner(tokens: list[Token], at: int, first: int, found: Iterable[tuple[
 
 
 def labels_in(tokens: list[Token], first: int, last: int) -> set[str]:
-    return {tokens[at].text for at in range(first, last) if tokens[at].kind == "word" and tokens[at + 1].text == ":" and
-            tokens[at - 1].text in ("{", "}", ";", ":", ")", "else", "do")}
+    return {
+        tokens[at].text
+        for at in range(first, last)
+        if tokens[at].kind == "word"
+        and tokens[at + 1].text == ":"
+        and tokens[at - 1].text in ("{", "}", ";", ":", ")", "else", "do")
+    }
 
 
 def jumps_in(tokens: list[Token], first: int, last: int) -> list[tuple[int, str]]:
@@ -134,8 +144,11 @@ def check_entries(tokens: list[Token], first: int, last: int, what: str) -> None
         raise Refused(tokens[first], f"cannot jump into a '{what}'")
     choices = [(at, statement_end(tokens, at)) for at in range(first, last) if tokens[at].text == "switch"]
     for at in range(first, last):
-        if tokens[at].text in ("case", "default") and tokens[at - 1].text in ("{", "}", ";", ":") and \
-                not is_in_inner(tokens, at, first, choices):
+        if (
+            tokens[at].text in ("case", "default")
+            and tokens[at - 1].text in ("{", "}", ";", ":")
+            and not is_in_inner(tokens, at, first, choices)
+        ):
             raise Refused(tokens[at], f"cannot jump into a '{what}'")
 
 
@@ -182,15 +195,19 @@ class Loop:
 
     def parts(self) -> list[tuple[int, int]]:
         """The three parts of the header, each from its first token to the one behind its last."""
-        marks = [at for at in range(self.opening, self.closing)
-                 if self.tokens[at].text == ";" and self.tokens[at].around == self.opening]
-        if any(token.text.startswith("_Cilk_") for token in self.tokens[self.opening:self.closing]):
+        marks = [
+            at
+            for at in range(self.opening, self.closing)
+            if self.tokens[at].text == ";" and self.tokens[at].around == self.opening
+        ]
+        if any(token.text.startswith("_Cilk_") for token in self.tokens[self.opening : self.closing]):
             self.refuse("no keyword of Cilk may stand in the header")
         if len(marks) != 2:
             self.refuse("expected an initialization, a condition and an increment")
         ends = [self.opening, *marks, self.closing]
-        for first, end, what in zip(ends, ends[1:], ("control variable initialization", "condition expression",
-                                                     "increment expression")):
+        for first, end, what in zip(
+            ends, ends[1:], ("control variable initialization", "condition expression", "increment expression")
+        ):
             if first + 1 == end:
                 self.refuse(f"missing loop {what}")
         return [(first + 1, end) for first, end in zip(ends, ends[1:])]
@@ -210,8 +227,12 @@ class Loop:
         if sign - 1 == first or (self.tokens[first].text == "*"):
             self.refuse("the loop control variable has to be declared")
         own = {token.text for token in own_words(self.tokens, first, sign)}
-        if self.direct(first, sign) & {"static", "extern", "register", "_Thread_local", "thread_local"} or \
-                own & {"const", "volatile", "&", "&&"}:
+        if self.direct(first, sign) & {"static", "extern", "register", "_Thread_local", "thread_local"} or own & {
+            "const",
+            "volatile",
+            "&",
+            "&&",
+        }:
             self.refuse("loop control variable must be a plain automatic variable")
         self.name = self.tokens[sign - 1].text
         self.declaration = self.piece(first, end)
@@ -227,10 +248,11 @@ class Loop:
             self.refuse(f"loop condition does not test control variable '{self.name}'")
         looser = LOOSER if self.language == "c++" else LOOSER | set(COMPARISONS)
         # An `&` that comes first takes an address.
-        if limit[0] == limit[1] or any(self.tokens[at].text in looser for at in outside(self.tokens, *limit)
-                                       if at > limit[0]):
+        if limit[0] == limit[1] or any(
+            self.tokens[at].text in looser for at in outside(self.tokens, *limit) if at > limit[0]
+        ):
             self.refuse("loop condition has to be one comparison")
-        if any(token.text == self.name for token in self.tokens[limit[0]:limit[1]]):
+        if any(token.text == self.name for token in self.tokens[limit[0] : limit[1]]):
             self.refuse(f"loop condition may name control variable '{self.name}' only once")
         self.limit = self.piece(*limit)
 
@@ -260,8 +282,10 @@ class Loop:
         made = [f"{{ {self.declaration};", f"{auto} __spbags_end = {value.format(self.limit)};"]
         if self.step:
             made.append(f"{auto} __spbags_step = {value.format(self.step)};")
-        made += [f"{entered(self.tokens[self.at])} {self.keeps(self.at)} long __spbags_number = 0;",
-                 f"for (; {name} {self.comparison} __spbags_end; {self.moved}, (void)0, __spbags_number++) {{"]
+        made += [
+            f"{entered(self.tokens[self.at])} {self.keeps(self.at)} long __spbags_number = 0;",
+            f"for (; {name} {self.comparison} __spbags_end; {self.moved}, (void)0, __spbags_number++) {{",
+        ]
         made += self.lambda_header() if is_cplusplus else self.outlined_header()
         closing: Token = self.tokens[self.closing]
         return self.here + " ".join(made) + closing.marker()
@@ -272,11 +296,13 @@ class Loop:
     def outlined_header(self) -> list[str]:
         name = self.name
         kinds = f"__builtin_classify_type({name})"
-        return [f'_Static_assert({kinds} != 8 && sizeof {name} <= sizeof(long), '
-                f'"loop control variable must have an integer or pointer type in \'cilk_for\'");'
-                f"__spbags_iteration((long){name}, {kinds} == 5 ? __spbags_number : (long){name});",
-                self.here + OUTLINES[self.language] + self.here,
-                f"{{ __typeof__({name}) {name} = (__typeof__({name}))__spbags_counter(); do"]
+        return [
+            f"_Static_assert({kinds} != 8 && sizeof {name} <= sizeof(long), "
+            f"\"loop control variable must have an integer or pointer type in 'cilk_for'\");"
+            f"__spbags_iteration((long){name}, {kinds} == 5 ? __spbags_number : (long){name});",
+            self.here + OUTLINES[self.language] + self.here,
+            f"{{ __typeof__({name}) {name} = (__typeof__({name}))__spbags_counter(); do",
+        ]
 
     def lambda_header(self) -> list[str]:
         keeps = self.keeps(self.closing)
@@ -289,8 +315,10 @@ class Loop:
         if self.language == "c++":
             run = "__spbags_body(); __spbags_return(&__spbags_body, sizeof __spbags_body);"
             if self.at in self.waiting:
-                run = (f"try {{ {run} }} catch (...) {{ __spbags_ending __spbags_ended{{\"\", &__spbags_body, "
-                       "sizeof __spbags_body}; __spbags_here.__keep(__spbags_ended); }")
+                run = (
+                    f'try {{ {run} }} catch (...) {{ __spbags_ending __spbags_ended{{"", &__spbags_body, '
+                    "sizeof __spbags_body}; __spbags_here.__keep(__spbags_ended); }"
+                )
             end = f"while (0); }}; __spbags_iteration(0, __spbags_shown({self.name}, __spbags_number)); {run} }} }}"
         return self.here + end + self.tokens[self.last].marker()
 

@@ -28,11 +28,39 @@ LOOPS_LENGTH = 2000
 
 # The words that a directive begins with; those that have more here can't be traced, and are called so.
 DIRECTIVES: dict[str, str | None] = {
-    **dict.fromkeys(("parallel", "for", "simd", "sections", "single", "master", "masked", "task", "taskloop",
-                     "taskwait", "section", "ordered", "declare", "begin", "end", "cancel", "cancellation", "depobj")),
-    "target": "target", "teams": "teams", "distribute": "distribute", "loop": "loop (write `for')",
-    "allocate": "allocate", "allocators": "allocate", "scan": "scan",
-    "metadirective": "metadirective", "dispatch": "dispatch", "interop": "interop"}
+    **dict.fromkeys(
+        (
+            "parallel",
+            "for",
+            "simd",
+            "sections",
+            "single",
+            "master",
+            "masked",
+            "task",
+            "taskloop",
+            "taskwait",
+            "section",
+            "ordered",
+            "declare",
+            "begin",
+            "end",
+            "cancel",
+            "cancellation",
+            "depobj",
+        )
+    ),
+    "target": "target",
+    "teams": "teams",
+    "distribute": "distribute",
+    "loop": "loop (write `for')",
+    "allocate": "allocate",
+    "allocators": "allocate",
+    "scan": "scan",
+    "metadirective": "metadirective",
+    "dispatch": "dispatch",
+    "interop": "interop",
+}
 # The number of a body's kind in the hooks, by the last word of its directive.
 BODIES = {"parallel": 0, "single": 1, "master": 2, "masked": 2}
 SIMD_BODY, SECTION_BODY, LAST_BODY, SCOPE_BODY, SCOPE_NOWAIT_BODY, SCOPED_BODY = range(3, 9)
@@ -72,7 +100,7 @@ def refusal(text: str) -> str | None:
             return DIRECTIVES[name]
     if names == ["ordered"] and {"depend", "doacross"} & {name for name, _, _ in clauses}:
         return "depend"
-    for name, start, end in clauses[len(names):]:
+    for name, start, end in clauses[len(names) :]:
         if name in REFUSED_CLAUSES:
             return REFUSED_CLAUSES[name]
         if re.match(r"reduction\s*\(\s*inscan\b", text[start:end]):
@@ -109,7 +137,8 @@ def sums_in_scope(text: str) -> bool:
     """Whether a directive is a scope whose threads combine variables of their own behind it."""
     return text.split()[:1] == ["scope"] and any(
         name == "reduction" and not re.match(r"reduction\s*\(\s*task\b", text[start:end])
-        for name, start, end in clauses_of(text))
+        for name, start, end in clauses_of(text)
+    )
 
 
 def body(kind: int, file: str, line: int, next_line: int) -> str:
@@ -256,8 +285,11 @@ def ignored(text: str) -> Iterator[tuple[str, int]]:
     """The places of directives by which something would be parallel, but for those of the system's headers."""
     bare, files = blanked(text), Files(text)
     for pragma in PRAGMAS.finditer(text):
-        if PRAGMA.match(bare, pragma.start()) and MAKES_PARALLEL & set(leading(clauses_of(pragma[1]))) and \
-                not files.at(pragma.start())[0].startswith(SYSTEM):
+        if (
+            PRAGMA.match(bare, pragma.start())
+            and MAKES_PARALLEL & set(leading(clauses_of(pragma[1])))
+            and not files.at(pragma.start())[0].startswith(SYSTEM)
+        ):
             yield files.place(pragma.start())
 
 
@@ -269,7 +301,8 @@ UNKNOWN = (
     ("omp_fulfill_event", "OpenMP's detach"),
     ("GOMP_alloc|GOMP_free|omp_.*alloc|omp_free", "OpenMP's allocate"),
     ("GOMP_loop|GOMP_parallel_loop", "a loop that the tracer's compiler didn't compile"),
-    ("GOMP_|omp_|__kmpc_", "a part of OpenMP"))
+    ("GOMP_|omp_|__kmpc_", "a part of OpenMP"),
+)
 UNDEFINED = re.compile("^(?:\\S*ld: )?(.*?):? undefined reference to [`'](\\w+)'", re.MULTILINE)
 
 

@@ -13,6 +13,7 @@ if TYPE_CHECKING:
     from typing import Any
 
     from compile.spawns_cplusplus import Postfix
+
     Edit = tuple[Any, ...]
 
 # Those that are grouped from the left, the loosest first.
@@ -21,8 +22,12 @@ PREFIXES = {"++", "--", "+", "-", "!", "~", "*", "&"}
 POSTFIXES = {"++", "--"}
 # How an operator is written, and the arguments of the same as a member of its left operand.
 LEFT, RIGHT = (f"static_cast<decltype(__spbags_{name}) &&>(__spbags_{name})" for name in "op")
-FORMS = {"binary": (f"{LEFT} {{}} {RIGHT}", RIGHT), "subscript": (f"{LEFT}[{RIGHT}]", RIGHT),
-         "prefix": (f"{{}}{LEFT}", ""), "postfix": (f"{LEFT}{{}}", "0")}
+FORMS = {
+    "binary": (f"{LEFT} {{}} {RIGHT}", RIGHT),
+    "subscript": (f"{LEFT}[{RIGHT}]", RIGHT),
+    "prefix": (f"{{}}{LEFT}", ""),
+    "postfix": (f"{LEFT}{{}}", "0"),
+}
 BUILT_IN = "a spawn has to be a call, and this operator is built in"
 OUTSIDE = "__attribute__((no_sanitize_thread))"
 
@@ -32,9 +37,13 @@ def binary_operators(tokens: list[Token], first: int, end: int) -> Iterator[int]
     is_behind_operand = False
     for at in outside(tokens, first, end):
         token = tokens[at]
-        is_operand = (token.kind != "mark" or token.text in ("(", "[", "{") or tokens[at - 1].text == "operator" or
-                      (token.text == "<" and after_angles(tokens, at) is not None) or
-                      (is_behind_operand and token.text in POSTFIXES))
+        is_operand = (
+            token.kind != "mark"
+            or token.text in ("(", "[", "{")
+            or tokens[at - 1].text == "operator"
+            or (token.text == "<" and after_angles(tokens, at) is not None)
+            or (is_behind_operand and token.text in POSTFIXES)
+        )
         if is_behind_operand and not is_operand:
             yield at
         is_behind_operand = is_operand
@@ -83,8 +92,12 @@ class Operation:
         self.tokens, self.end = tokens, end
         self.sign: Any
         self.form, self.sign = self.form_of(postfix)
-        if self.sign is None or postfix.call is not None or tokens[self.sign + 1].text == "{" or \
-                tokens[postfix.first].text in CONTROLS | {"{"}:
+        if (
+            self.sign is None
+            or postfix.call is not None
+            or tokens[self.sign + 1].text == "{"
+            or tokens[postfix.first].text in CONTROLS | {"{"}
+        ):
             self.sign = None
         self.is_assignment = self.sign is not None and tokens[self.sign].text in ASSIGNMENTS
 

@@ -145,7 +145,9 @@ def expanded(words: Iterable[str]) -> Iterator[str]:
     """The words, with those of a file in place of @file, as the compiler takes them."""
     for word in words:
         try:
-            with open(word[1:] if word.startswith("@") else os.devnull, encoding="utf-8", errors="surrogateescape") as file:
+            with open(
+                word[1:] if word.startswith("@") else os.devnull, encoding="utf-8", errors="surrogateescape"
+            ) as file:
                 text = file.read() if word.startswith("@") else None
         except OSError:
             text = None

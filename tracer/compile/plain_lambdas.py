@@ -7,13 +7,16 @@ import re
 from compile.line_markers import Files
 from tokens import Token, arguments_of, blanked, is_in_block, statement_start, tokens_of
 
-CALL = re.compile(r"\b(?:parallel_(?:deterministic_)?reduce|parallel_scan|(?:transform_)?reduce|"
-                  r"(?:transform_)?(?:in|ex)clusive_scan|remove(?:_copy)?_if|copy_if|(?:stable_)?partition(?:_copy)?|"
-                  r"unique(?:_copy)?)\s*\(")
+CALL = re.compile(
+    r"\b(?:parallel_(?:deterministic_)?reduce|parallel_scan|(?:transform_)?reduce|"
+    r"(?:transform_)?(?:in|ex)clusive_scan|remove(?:_copy)?_if|copy_if|(?:stable_)?partition(?:_copy)?|"
+    r"unique(?:_copy)?)\s*\("
+)
 HEADER = re.compile(r'^# 1 "[^"\n]*/spbags/parallel\.h"', re.MULTILINE)
 NO_TYPES = {"const", "&", "&&", "std", "::"}
-SCALARS = set("int long short char unsigned signed float double _Bool bool wchar_t size_t ssize_t ptrdiff_t "
-              "__int128".split())
+SCALARS = set(
+    "int long short char unsigned signed float double _Bool bool wchar_t size_t ssize_t ptrdiff_t " "__int128".split()
+)
 SCALAR = re.compile(r"u?int(?:_fast|_least)?(?:8|16|32|64|ptr|max)_t|__spbags_\w+")
 STATEMENTS = {"if", "while", "for", "switch", "return", "static_cast", "const_cast", "reinterpret_cast", "sizeof"}
 # What a function may be made of that touches its parameters alone.
@@ -23,8 +26,10 @@ PLAIN_WORDS = SCALARS | {"const", "void", "if", "else", "return", "static_cast",
 def first_call(text: str) -> int | None:
     """Where the first part of the program's own begins that calls such an algorithm, or None."""
     bare = blanked(text)
-    return next((start for start, end, is_system in Files(text).parts()
-                 if not is_system and CALL.search(bare, start, end)), None)
+    return next(
+        (start for start, end, is_system in Files(text).parts() if not is_system and CALL.search(bare, start, end)),
+        None,
+    )
 
 
 def is_scalar(words: list[str]) -> bool:
@@ -48,16 +53,22 @@ def is_plain(tokens: list[Token], first: int, last: int) -> bool:
     if tokens[first].kind == "number":
         return True  # a null pointer, which no one calls
     name = tokens[first].text
-    return any(token.text == name and tokens[at + 1].text == "(" and tokens[at + 1].partner is not None and
-               tokens[tokens[at + 1].partner + 1].text == "{" and is_plain_body(tokens, at + 1)
-               for at, token in enumerate(tokens[:-1]) if token.kind == "word")
+    return any(
+        token.text == name
+        and tokens[at + 1].text == "("
+        and tokens[at + 1].partner is not None
+        and tokens[tokens[at + 1].partner + 1].text == "{"
+        and is_plain_body(tokens, at + 1)
+        for at, token in enumerate(tokens[:-1])
+        if token.kind == "word"
+    )
 
 
 def is_of_library(tokens: list[Token], at: int) -> bool:
     """Whether this is `std::max` or `std::min`, or a part of that."""
     if tokens[at].text == "std":
         return tokens[at + 1].text == "::"
-    return tokens[at].text in ("max", "min") and [token.text for token in tokens[at - 2:at]] == ["std", "::"]
+    return tokens[at].text in ("max", "min") and [token.text for token in tokens[at - 2 : at]] == ["std", "::"]
 
 
 def is_plain_body(tokens: list[Token], opening: int) -> bool:
@@ -96,13 +107,18 @@ def takes_address(tokens: list[Token], at: int) -> bool:
 
 
 def is_plain_lambda(tokens: list[Token], first: int, last: int) -> bool:
-    if [token.text for token in tokens[first:first + 3]] != ["[", "]", "("]:
+    if [token.text for token in tokens[first : first + 3]] != ["[", "]", "("]:
         return False
     body = tokens[first + 2].partner + 1
-    return all(is_number(tokens, *each) for each in arguments_of(tokens, first + 2)) and \
-        is_plain(tokens, first, last) and tokens[last].text == "}" and \
-        not any(takes_address(tokens, at) or tokens[at].text == "return" and tokens[at + 1].text == "&"
-                for at in range(body, last))
+    return (
+        all(is_number(tokens, *each) for each in arguments_of(tokens, first + 2))
+        and is_plain(tokens, first, last)
+        and tokens[last].text == "}"
+        and not any(
+            takes_address(tokens, at) or tokens[at].text == "return" and tokens[at + 1].text == "&"
+            for at in range(body, last)
+        )
+    )
 
 
 def rewritten(text: str) -> str:

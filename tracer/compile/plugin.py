@@ -50,8 +50,9 @@ def is_there(compiler: str) -> bool:
 def files_of(is_clang: bool, ending: str) -> list[str]:
     """Those that the plugin is made of; some are of both."""
     folders = (os.path.join(PLUGINS, "llvm" if is_clang else "gcc"), PLUGINS)
-    return sorted(os.path.join(folder, name) for folder in folders for name in os.listdir(folder)
-                  if name.endswith(ending))
+    return sorted(
+        os.path.join(folder, name) for folder in folders for name in os.listdir(folder) if name.endswith(ending)
+    )
 
 
 def digest(about: str, is_clang: bool) -> str:

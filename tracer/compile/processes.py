@@ -15,8 +15,13 @@ USUAL = [signal.SIGPIPE, signal.SIGXFSZ]
 
 def start(words: list[str], files: Iterable[tuple[int, int]] = ()) -> int:
     """The process of a command. It gets each of these files, of a number of its own and a descriptor of ours."""
-    return os.posix_spawnp(words[0], words, os.environ, setsigdef=USUAL,
-                           file_actions=[(os.POSIX_SPAWN_DUP2, file, number) for number, file in files])
+    return os.posix_spawnp(
+        words[0],
+        words,
+        os.environ,
+        setsigdef=USUAL,
+        file_actions=[(os.POSIX_SPAWN_DUP2, file, number) for number, file in files],
+    )
 
 
 def status_of(process: int) -> int:

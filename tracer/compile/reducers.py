@@ -15,7 +15,7 @@ def rewritten(text: str) -> str:
     for found in KEYWORD.finditer(bare):
         end = found[1] and after_bracket(bare, found.end() - 1) or found.end()
         given = f"(__spbags_functions{text[found.end() - 1:end]})" if found[1] else ""
-        made += [text[done:found.start()], f"__attribute__((spbags_reducer{given}))"]
+        made += [text[done : found.start()], f"__attribute__((spbags_reducer{given}))"]
         done = end
     return "".join(made) + text[done:]
 
@@ -23,5 +23,8 @@ def rewritten(text: str) -> str:
 def refused(text: str) -> list[str]:
     """A line for each reducer in a source that another compiler gets."""
     tokens = tokens_of(text) if KEYWORD.search(text) else []
-    return [f"{token.place()}: error: reducers can be traced only with gcc" for token in tokens
-            if token.text == "_Hyperobject"]
+    return [
+        f"{token.place()}: error: reducers can be traced only with gcc"
+        for token in tokens
+        if token.text == "_Hyperobject"
+    ]

@@ -54,8 +54,13 @@ class Libraries:
         self.seen.add(real)
         archive = os.path.join(self.folder, f"{len(self.seen)}-{os.path.basename(library)}")
         needed = archive + ".needed"
-        run("objcopy", f"--dump-section={OBJECTS}={archive}", f"--dump-section={NEEDED}={needed}", library,
-            archive + ".copy")
+        run(
+            "objcopy",
+            f"--dump-section={OBJECTS}={archive}",
+            f"--dump-section={NEEDED}={needed}",
+            library,
+            archive + ".copy",
+        )
         with open(needed, encoding="utf-8", errors="surrogateescape") as file:
             for other in file.read().splitlines():
                 self.need(self.found(other, library))
@@ -84,8 +89,15 @@ class Libraries:
             both = [word, next(words, "")] if word == "-l" else [word]
             if not self.is_named("".join(both)):
                 rest += both
-        return ["-Wl,--whole-archive", *self.archives, "-Wl,--no-whole-archive", *rest, "-Wl,--push-state,--as-needed",
-                *self.others, "-Wl,--pop-state"]
+        return [
+            "-Wl,--whole-archive",
+            *self.archives,
+            "-Wl,--no-whole-archive",
+            *rest,
+            "-Wl,--push-state,--as-needed",
+            *self.others,
+            "-Wl,--pop-state",
+        ]
 
     def is_named(self, word: str) -> bool:
         """Whether a word names one of the libraries."""

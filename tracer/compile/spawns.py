@@ -13,12 +13,25 @@ from collections.abc import Iterable
 from compile import loops
 from compile import spawns_cplusplus
 from compile.line_markers import Files
-from tokens import (ASSIGNMENTS, Refused, Token, arguments_of, call_after, is_in_block, is_lvalue, own_constants, piece,
-                    statement_start, tokens_of, without)
+from tokens import (
+    ASSIGNMENTS,
+    Refused,
+    Token,
+    arguments_of,
+    call_after,
+    is_in_block,
+    is_lvalue,
+    own_constants,
+    piece,
+    statement_start,
+    tokens_of,
+    without,
+)
 
 TYPE_CHECKING = False
 if TYPE_CHECKING:
     from typing import Any
+
     Edit = tuple[Any, ...]
 
 LITERALS = {"string", "character", "number"}
@@ -29,10 +42,14 @@ IGNORED = re.compile(r"^[ \t]*#[ \t]*pragma[ \t]+(?:omp|cilk)\b.*", re.MULTILINE
 
 SHAPES = "write `cilk_spawn f(..);', `x = cilk_spawn f(..);' or `x += cilk_spawn f(..);' as a statement of its own"
 # The result's memory, but for what a call gives in a register: no number and no pointer has any on the way.
-HELD = "__builtin_choose_expr(sizeof __spbags_result <= 8 && __builtin_classify_type(__spbags_result) < 12, " \
-       "(const volatile void *)0, (const volatile void *)&__spbags_result)"
-REFUSED = {word: f"{word} is no keyword here: write `#include <cilk/cilk.h>' above"
-           for word in ("cilk_spawn", "cilk_sync", "cilk_for", "cilk_scope")}
+HELD = (
+    "__builtin_choose_expr(sizeof __spbags_result <= 8 && __builtin_classify_type(__spbags_result) < 12, "
+    "(const volatile void *)0, (const volatile void *)&__spbags_result)"
+)
+REFUSED = {
+    word: f"{word} is no keyword here: write `#include <cilk/cilk.h>' above"
+    for word in ("cilk_spawn", "cilk_sync", "cilk_for", "cilk_scope")
+}
 # What may have to be rewritten, beside where another edit says so.
 MEANT = {"_Cilk_spawn", "_Cilk_for", "_Cilk_scope", "_Cilk_sync", "try", *REFUSED}
 
@@ -67,7 +84,7 @@ class Spawn:
             raise Refused(tokens[spawn], f"a spawn inside a larger expression can't be traced: {SHAPES}")
         self.opening = opening
         self.closing = tokens[self.opening].partner
-        if any(token.text == "_Cilk_spawn" for token in tokens[spawn + 1:self.closing]):
+        if any(token.text == "_Cilk_spawn" for token in tokens[spawn + 1 : self.closing]):
             raise Refused(tokens[spawn], f"a spawn inside another one can't be traced: {SHAPES}")
         self.first = statement_start(tokens, spawn)
         self.last = self.closing + 1
@@ -80,8 +97,8 @@ class Spawn:
         """A declaration for each argument that has to be evaluated first, and what to hand over."""
         made, names = [], []
         for number, (first, last) in enumerate(arguments_of(self.tokens, self.opening)):
-            if all(token.kind in LITERALS for token in self.tokens[first:last + 1]):
-                names.append(self.text[self.tokens[first].start:self.tokens[last].end])
+            if all(token.kind in LITERALS for token in self.tokens[first : last + 1]):
+                names.append(self.text[self.tokens[first].start : self.tokens[last].end])
             else:
                 # The comma makes a pointer of an array, and a plain number of a bit field.
                 made.append(f"__auto_type __spbags_{number} = ((void)0, ({self.piece(first, last)}));")
@@ -90,7 +107,7 @@ class Spawn:
 
     def target(self) -> tuple[str, list[str]]:
         """The declaration that goes before all, and the one of the result's address."""
-        if [token.text for token in self.tokens[self.first:self.spawn]] in ([], ["(", "void", ")"]):
+        if [token.text for token in self.tokens[self.first : self.spawn]] in ([], ["(", "void", ")"]):
             return "", []
         declared, named = "", (self.first, self.spawn - 2)
         if check_target(self.tokens, self.first, self.spawn):
@@ -109,14 +126,20 @@ class Spawn:
             result = call
             # Whatever races with a read of it races with this write too.
             sign = self.tokens[self.spawn - 1].text
-            ends = [f"*__spbags_target {sign} __spbags_result;", "__spbags_stored(__spbags_target, "
-                    f"sizeof *__spbags_target, {HELD}, sizeof __spbags_result); }}"]
+            ends = [
+                f"*__spbags_target {sign} __spbags_result;",
+                "__spbags_stored(__spbags_target, " f"sizeof *__spbags_target, {HELD}, sizeof __spbags_result); }}",
+            ]
         made = [
-            f"{{ __auto_type __spbags_f = ({self.piece(self.spawn + 1, self.opening - 1)});", *before, *address,
+            f"{{ __auto_type __spbags_f = ({self.piece(self.spawn + 1, self.opening - 1)});",
+            *before,
+            *address,
             "__auto_type __spbags_g = (__typeof__(__spbags_f))__spbags_spawn((__spbags_function)__spbags_f);",
             # Never done, as only the hooks know; but where it could be, arguments pass below the stack pointer.
             "if (!__spbags_g) __spbags_return(__builtin_alloca(16), 0);",
-            f"__auto_type __spbags_result = {result};", *ends]
+            f"__auto_type __spbags_result = {result};",
+            *ends,
+        ]
         last: Token = self.tokens[self.last]
         return self.here + declared + " ".join(made) + last.marker()
 
@@ -127,8 +150,9 @@ def refused(text: str, why: str) -> list[str]:
     return [f"{token.place()}: error: {why}" for token in tokens if token.text.startswith("_Cilk_")]
 
 
-def edits_of(text: str, tokens: list[Token], at: int, language: str, waiting: set[int]) -> tuple[Edit,
-             list[Edit]] | None:
+def edits_of(
+    text: str, tokens: list[Token], at: int, language: str, waiting: set[int]
+) -> tuple[Edit, list[Edit]] | None:
     """What has to be rewritten here: the indexes of the first and the last token, and their new text; and later edits,
     each of this form, or the index of a token and what comes behind it. Or None."""
     token = tokens[at]
@@ -175,7 +199,7 @@ class Rewriting:
             return
         if edits:
             (first, last, instead), later = edits
-            self.made += [self.text[self.done:self.tokens[first].start], instead]
+            self.made += [self.text[self.done : self.tokens[first].start], instead]
             self.done = self.tokens[last].end
             for edit in later:
                 if len(edit) == 3:
@@ -188,9 +212,9 @@ class Rewriting:
             if (token.text in MEANT or at in self.planned or at in self.waiting) and token.start >= self.done:
                 self.rewrite(at)
             for instead in self.behind.pop(at, ()):
-                self.made += [self.text[self.done:token.end], instead]
+                self.made += [self.text[self.done : token.end], instead]
                 self.done = max(self.done, token.end)
-        return "".join(self.made) + self.text[self.done:], self.faults
+        return "".join(self.made) + self.text[self.done :], self.faults
 
 
 def rewritten(text: str, language: str) -> tuple[str, list[str]]:

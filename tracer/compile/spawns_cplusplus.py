@@ -10,21 +10,37 @@ from collections.abc import Iterable
 
 from compile.loops import KEEPS, begins_function, entered, is_in_inner
 from compile.operators import Operation, pointer_sign, signature, with_hooks_and_without
-from tokens import (ASSIGNMENTS, CONTROLS, Refused, Token, after_angles, arguments_of, is_in_block, outside, own_constants, piece,
-                    statement_start)
+from tokens import (
+    ASSIGNMENTS,
+    CONTROLS,
+    Refused,
+    Token,
+    after_angles,
+    arguments_of,
+    is_in_block,
+    outside,
+    own_constants,
+    piece,
+    statement_start,
+)
 
 TYPE_CHECKING = False
 if TYPE_CHECKING:
     from typing import Any, NoReturn
+
     Edit = tuple[Any, ...]
 
-SHAPES = ("write `cilk_spawn f(..);', `x = cilk_spawn f(..);', `x += cilk_spawn f(..);' or "
-          "`T x = cilk_spawn f(..);' as a statement of its own")
+SHAPES = (
+    "write `cilk_spawn f(..);', `x = cilk_spawn f(..);', `x += cilk_spawn f(..);' or "
+    "`T x = cilk_spawn f(..);' as a statement of its own"
+)
 LARGER = f"a spawn inside a larger expression can't be traced: {SHAPES}"
 # What looks like a call and is none, or like a type.
-NO_NAMES = CONTROLS | set("sizeof alignof typeid decltype noexcept new delete throw return static_cast dynamic_cast "
-                          "const_cast reinterpret_cast co_await co_yield co_return requires catch auto "
-                          "__attribute__ asm __asm__ __typeof__ typeof".split())
+NO_NAMES = CONTROLS | set(
+    "sizeof alignof typeid decltype noexcept new delete throw return static_cast dynamic_cast "
+    "const_cast reinterpret_cast co_await co_yield co_return requires catch auto "
+    "__attribute__ asm __asm__ __typeof__ typeof".split()
+)
 NO_LOCALS = set("static extern typedef using thread_local _Thread_local __thread constexpr constinit".split())
 NO_SIGNATURE = "[&](__spbags_spawned, auto *) -> __spbags_no_signature { return {}; }"
 STATEMENT = "[&](__spbags_spawned) __attribute__((noipa))"
@@ -69,7 +85,7 @@ def is_statement(tokens: list[Token], at: int) -> bool:
     if not is_in_block(tokens, at):
         return False
     opening = tokens[at].around
-    words = {token.text for token in tokens[statement_start(tokens, opening):opening]}
+    words = {token.text for token in tokens[statement_start(tokens, opening) : opening]}
     return "(" in words or ")" in words or not {"struct", "class", "union", "namespace", "extern"} & words
 
 
@@ -106,8 +122,11 @@ def waiting_in(text: str, tokens: list[Token]) -> set[int]:
     """Where all begins that waits for children whose exceptions it keeps: also the loops, by their keywords."""
     if KEEPER not in text:
         return set()
-    starts = (at if token.text == "_Cilk_for" else waits_at(tokens, at) for at, token in enumerate(tokens)
-              if token.text in ("_Cilk_spawn", "_Cilk_for"))
+    starts = (
+        at if token.text == "_Cilk_for" else waits_at(tokens, at)
+        for at, token in enumerate(tokens)
+        if token.text in ("_Cilk_spawn", "_Cilk_for")
+    )
     return {start for start in starts if start is not None}
 
 
@@ -200,7 +219,9 @@ class Spawn:
             return self.called_by_pointer(sign)
         if callee.member is not None:
             pointed = "*__spbags_pointed(" if tokens[callee.member].text == "->" else ""
-            calls = self.here + (")" if pointed else "") + self.member_calls(callee.member) + tokens[self.opening].marker()
+            calls = (
+                self.here + (")" if pointed else "") + self.member_calls(callee.member) + tokens[self.opening].marker()
+            )
             edit = (callee.member, self.opening - 1, calls)
             return f"__spbags_member<{self.count()}>({pointed}", [edit]
         if self.is_name(self.spawn + 1, self.opening):
@@ -231,9 +252,10 @@ class Spawn:
         """The name that is called, and whether it is that of a template with its arguments. Such a name may stand for
         several functions, also where its address has one type."""
         last = self.opening - 1
-        has_arguments = any(self.tokens[at].text in (">", ">>") and self.tokens[at - 1].text != "operator"
-                            for at in (last - 1, last))
-        name = re.sub(r"\s*\n(?:#[^\n]*\n)?\s*", " ", self.text[self.tokens[first].start:self.tokens[last].end])
+        has_arguments = any(
+            self.tokens[at].text in (">", ">>") and self.tokens[at - 1].text != "operator" for at in (last - 1, last)
+        )
+        name = re.sub(r"\s*\n(?:#[^\n]*\n)?\s*", " ", self.text[self.tokens[first].start : self.tokens[last].end])
         return name, has_arguments
 
     def name_calls(self) -> str:
@@ -245,8 +267,11 @@ class Spawn:
     def member_calls(self, member: int) -> str:
         first = member + 1
         name, has_arguments = self.words(first)
-        if has_arguments and self.tokens[first].text != "template" and \
-                "::" not in [token.text for token in self.tokens[first:self.opening]]:
+        if (
+            has_arguments
+            and self.tokens[first].text != "template"
+            and "::" not in [token.text for token in self.tokens[first : self.opening]]
+        ):
             name = "template " + name
         call = f"static_cast<decltype(__spbags_o) &&>(__spbags_o).{name}({FORWARDED})"
         parameters = "__spbags_spawned, auto &&__spbags_o, auto &&...__spbags_p"
@@ -255,13 +280,16 @@ class Spawn:
 
     def target(self) -> tuple[str, str, str | None]:
         """What the statement's function begins with, its type, and the declaration of what gets the result."""
-        before = [token.text for token in self.tokens[self.first:self.spawn]]
+        before = [token.text for token in self.tokens[self.first : self.spawn]]
         if before in ([], ["(", "void", ")"]):
             return "(void)", "", None
         sign = self.spawn - 1
         direct = {self.tokens[at].text for at in outside(self.tokens, self.first, sign)}
-        if not self.is_braced and (before[-1] not in ASSIGNMENTS or sign == self.first or
-                                   (ASSIGNMENTS | {",", "?", "return", "throw", "<<", ">>"}) & direct):
+        if not self.is_braced and (
+            before[-1] not in ASSIGNMENTS
+            or sign == self.first
+            or (ASSIGNMENTS | {",", "?", "return", "throw", "<<", ">>"}) & direct
+        ):
             self.refuse(LARGER)
         if not self.is_braced and self.is_lvalue(sign):
             at = self.piece(self.first, sign - 1)
@@ -276,8 +304,14 @@ class Spawn:
     def declaration(self, sign: int) -> tuple[str, str, str]:
         """Of a variable, which the statement's function returns."""
         texts = [self.tokens[at].text for at in outside(self.tokens, self.first, sign - 1)]
-        if not texts or self.tokens[sign - 1].kind != "word" or self.tokens[sign].text not in ("=", "{") or \
-                NO_LOCALS & set(texts) or texts[-1] in ("&", "&&", ".", "->", "::") or "(" in texts:
+        if (
+            not texts
+            or self.tokens[sign - 1].kind != "word"
+            or self.tokens[sign].text not in ("=", "{")
+            or NO_LOCALS & set(texts)
+            or texts[-1] in ("&", "&&", ".", "->", "::")
+            or "(" in texts
+        ):
             self.refuse("a spawn can't be traced in this declaration: declare the variable before it")
         # No hook sees the read of what is declared to be constant.
         declared = self.piece(self.first, sign - 2, own_constants(self.tokens, self.first, sign - 1))
@@ -309,9 +343,11 @@ class Spawn:
         elif self.keeps:
             result = f"__spbags_result<decltype({result})>::__of({made}, __spbags_ended_{number}, __spbags_here)"
         declared = f"__spbags_in_room<{kind}>" if room else kind
-        return (f"{room}{declared} {self.piece(self.spawn - 2, self.spawn - 2)} = {result}; "
-                f"__spbags_check_local<{kind}>(); "
-                f"__spbags_ended_{number}.__end(__builtin_addressof({name}), sizeof {name});")
+        return (
+            f"{room}{declared} {self.piece(self.spawn - 2, self.spawn - 2)} = {result}; "
+            f"__spbags_check_local<{kind}>(); "
+            f"__spbags_ended_{number}.__end(__builtin_addressof({name}), sizeof {name});"
+        )
 
     def edits(self) -> tuple[Edit, list[Edit]]:
         """What is put in place of tokens, and later edits: in place of others, or behind one."""
@@ -320,13 +356,15 @@ class Spawn:
         number = f"_{self.spawn}" if declared else ""
         made = self.function(bool(declared))
         made_by = f"{'' if declared else '{ '}auto {made} = {STATEMENT}{kind} {{ {begins}{opens}"
-        place = f"{self.tokens[self.spawn].file[:-1]}:{self.tokens[self.spawn].line}\""
+        place = f'{self.tokens[self.spawn].file[:-1]}:{self.tokens[self.spawn].line}"'
         ends = f" }}; __spbags_ending __spbags_ended{number}{{{place}, &{made}, sizeof {made}}}; "
         if declared:
             ends += self.declares(declared)
         elif self.keeps:
-            ends += (f"try {{ {made}({{}}); __spbags_ended.__end(0, 0); }} "
-                     "catch (...) { __spbags_here.__keep(__spbags_ended); } }")
+            ends += (
+                f"try {{ {made}({{}}); __spbags_ended.__end(0, 0); }} "
+                "catch (...) { __spbags_here.__keep(__spbags_ended); } }"
+            )
         else:
             ends += f"{made}({{}}); __spbags_ended.__end(0, 0); }}"
         if self.is_braced and not kind:
@@ -341,8 +379,10 @@ def try_edits(tokens: list[Token], at: int, waiting: set[int]) -> tuple[Edit, li
     while tokens[first].text not in ("{", ";", "}"):
         first = tokens[first].partner + 1 if tokens[first].text == "(" and tokens[first].partner else first + 1
     last = tokens[first].partner if tokens[first].text == "{" else None
-    if last is None or not any(tokens[inner].text == "_Cilk_spawn" and not is_in_inner(tokens, inner, first, ())
-                               for inner in range(first, last)):
+    if last is None or not any(
+        tokens[inner].text == "_Cilk_spawn" and not is_in_inner(tokens, inner, first, ())
+        for inner in range(first, last)
+    ):
         return None
     if first != at + 1:
         raise Refused(tokens[at], "a spawn can't be traced in a constructor's function try block")

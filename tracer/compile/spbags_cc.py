@@ -31,8 +31,9 @@ if TYPE_CHECKING:
 # What is of use only for some sources or links is imported where that is done: a small command waits for each module.
 
 # The compiler itself answers these.
-ASKS = re.compile(r"-E|-M|-MM|-###|--?print-.*|-dump(?:version|fullversion|machine|specs)|--version|"
-                  r"--help(?:=.*)?|--target-help")
+ASKS = re.compile(
+    r"-E|-M|-MM|-###|--?print-.*|-dump(?:version|fullversion|machine|specs)|--version|" r"--help(?:=.*)?|--target-help"
+)
 
 
 def become_compiler(words: list[str]) -> NoReturn:
@@ -71,6 +72,7 @@ def build(compiler: Compiler, folder: str) -> None:
             objects[source] = made
     if not words.ends_with:
         from compile import link
+
         link.Link(compiler, objects, folder).make()
 
 
@@ -81,6 +83,7 @@ def main() -> int:
         return 0 if words else 2
     if words == [COMPILE_HOOKS]:
         from compile import link
+
         link.compile_hooks()
         return 0
     if words == ["--version"]:

@@ -38,12 +38,14 @@ Made = tuple[str, list[str]]
 class Step:
     """A function, whose text says what it does to a source, and which sources it is for."""
 
-    def __init__(self, name: str, is_taken: Callable[[str, Target], object],
-                 rewrite: Callable[[str, Target], Made]) -> None:
+    def __init__(
+        self, name: str, is_taken: Callable[[str, Target], object], rewrite: Callable[[str, Target], Made]
+    ) -> None:
         self.name, self.is_taken, self.rewrite = name, is_taken, rewrite
 
 
 # ---- Assembly ----
+
 
 def may_have_assembly(text: str) -> bool:
     """Whether the assembler's word stands anywhere but in a declaration, which most sources have."""
@@ -58,44 +60,51 @@ def may_have_assembly(text: str) -> bool:
 
 def begins(text: str, at: int) -> bool:
     """Whether this is behind the end of something else; a line that names a file may stand between."""
-    before = text[max(at - NEAR, 0):at].rstrip()
+    before = text[max(at - NEAR, 0) : at].rstrip()
     while before.startswith("#", before.rfind("\n") + 1):
-        before = before[:before.rfind("\n") + 1].rstrip()
+        before = before[: before.rfind("\n") + 1].rstrip()
     return before[-1:] in ("", ";", "{", "}")
 
 
 def with_assembly(text: str, _: Target) -> Made:
     """tells where it stands outside of functions"""
     from compile import assembly
+
     return assembly.outside(text), []
 
 
 # ---- OpenMP ----
 
+
 def with_warning(text: str, _: Target) -> Made:
     """warns that the program is serial without -fopenmp"""
     from compile import openmp
+
     place = next(openmp.ignored(text), None)
     if place:
-        print("{}:{}: warning: without -fopenmp this OpenMP is ignored, so the program is serial".format(*place),
-              file=sys.stderr)
+        print(
+            "{}:{}: warning: without -fopenmp this OpenMP is ignored, so the program is serial".format(*place),
+            file=sys.stderr,
+        )
     return text, []
 
 
 def with_openmp(text: str, target: Target) -> Made:
     """loops ask the runtime for each iteration, and bodies say where they begin"""
     from compile import openmp
+
     return openmp.rewritten(text, target.is_clang)
 
 
 # ---- C++ ----
+
 
 def without_instances(text: str, _: Target) -> Made:
     """the library's headers don't say that it has instances of them"""
     made, done, files = [], 0, Files(text)
     for declared in STRINGS.finditer(text):
         if files.at(declared.start())[1]:
-            made.append(text[done:declared.start()])
+            made.append(text[done : declared.start()])
             done = declared.end()
     return "".join(made) + text[done:], []
 
@@ -103,26 +112,31 @@ def without_instances(text: str, _: Target) -> Made:
 def with_plain_lambdas(text: str, _: Target) -> Made:
     """parallel algorithms hear which lambdas touch only their parameters"""
     from compile import plain_lambdas
+
     return plain_lambdas.rewritten(text), []
 
 
 # ---- Cilk ----
 
+
 def with_reducers(text: str, target: Target) -> Made:
     """an attribute, which gcc's plugin reads, stands in place of the keyword"""
     from compile import reducers
+
     return (text, reducers.refused(text)) if target.is_clang else (reducers.rewritten(text), [])
 
 
 def without_attributes(text: str, _: Target) -> Made:
     """no function is put into its caller, or left without hooks"""
     from compile import attributes
+
     return attributes.without(text), []
 
 
 def with_spawns(text: str, target: Target) -> Made:
     """spawns, syncs, loops and scopes become calls of hooks"""
     from compile import spawns
+
     if target.has_openmp:
         return text, spawns.refused(text, "Cilk can't be traced together with OpenMP")
     if target.is_clang and target.is_cplusplus:
@@ -140,7 +154,8 @@ STEPS = [
     Step("plain lambdas", lambda text, target: target.is_cplusplus and ALGORITHMS.search(text), with_plain_lambdas),
     Step("reducers", lambda text, _: "_Hyperobject" in text, with_reducers),
     Step("attributes", lambda text, _: ATTRIBUTES.search(text), without_attributes),
-    Step("Cilk", lambda text, _: CILK.search(text), with_spawns)]
+    Step("Cilk", lambda text, _: CILK.search(text), with_spawns),
+]
 
 
 def taken(text: str, target: Target) -> Iterator[tuple[Step, str, list[str]]]:

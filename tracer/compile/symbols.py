@@ -13,11 +13,12 @@ SYMBOLS, DYNAMIC_SYMBOLS, LONG_INDEXES = 2, 11, 18
 WEAK, OBJECT, THREAD_LOCAL, FUNCTION_BY_FUNCTION = 2, 1, 6, 10
 EXECUTED = 4
 # Where the section's number is none, or stands elsewhere.
-NO_SECTION, ELSEWHERE = 0xff00, 0xffff
+NO_SECTION, ELSEWHERE = 0xFF00, 0xFFFF
 
 TYPE_CHECKING = False
 if TYPE_CHECKING:
     from typing import Union
+
     Bytes = Union[bytes, mmap.mmap]
     # The type, the flags, the place, the length, the linked section and the first global symbol.
     Section = tuple[int, int, int, int, int, int]
@@ -31,8 +32,8 @@ def opened(file: str) -> mmap.mmap:
 def sections_of(data: Bytes) -> list[Section]:
     if data[:4] != b"\x7fELF":
         return []
-    start, = struct.unpack_from("<Q", data, 0x28)
-    size, count = struct.unpack_from("<HH", data, 0x3a)
+    (start,) = struct.unpack_from("<Q", data, 0x28)
+    size, count = struct.unpack_from("<HH", data, 0x3A)
     if start == 0:
         return []
     count = count or struct.unpack_from("<Q", data, start + 32)[0]
@@ -45,15 +46,19 @@ def symbols_of(data: Bytes, is_dynamic: bool = False) -> Iterator[tuple[str, str
     sections = sections_of(data)
     for kind, _, at, length, link, first in sections:
         if kind == (DYNAMIC_SYMBOLS if is_dynamic else SYMBOLS):
-            texts = data[sections[link][2]:sections[link][2] + sections[link][3]]
-            long = next((data[start:start + size] for other, _, start, size, *_ in sections if other == LONG_INDEXES), b"")
-            rows = struct.iter_unpack("<IBBHQQ", data[at + 24 * first:at + length])
+            texts = data[sections[link][2] : sections[link][2] + sections[link][3]]
+            long = next(
+                (data[start : start + size] for other, _, start, size, *_ in sections if other == LONG_INDEXES), b""
+            )
+            rows = struct.iter_unpack("<IBBHQQ", data[at + 24 * first : at + length])
             for number, (name, about, _, section, *_) in enumerate(rows, first):
                 if section == ELSEWHERE:
-                    section, = struct.unpack_from("<I", long, 4 * number)
+                    (section,) = struct.unpack_from("<I", long, 4 * number)
                 elif section >= NO_SECTION:
                     section = len(sections)
-                yield texts[name:texts.index(b"\0", name)].decode(errors="surrogateescape"), what(about, section, sections)
+                yield texts[name : texts.index(b"\0", name)].decode(errors="surrogateescape"), what(
+                    about, section, sections
+                )
 
 
 def what(about: int, section: int, sections: list[Section]) -> str:
@@ -70,13 +75,13 @@ def members_of(file: str) -> Iterator[tuple[str, bytes]]:
     """The name and the bytes of each member of an archive. Those of a thin one are files of their own for the linker."""
     data, at, names = opened(file), len("!<arch>\n"), b""
     while at + 60 <= len(data):
-        name, size = data[at:at + 16].rstrip(), int(data[at + 48:at + 58])
-        text = data[at + 60:at + 60 + size]
+        name, size = data[at : at + 16].rstrip(), int(data[at + 48 : at + 58])
+        text = data[at + 60 : at + 60 + size]
         at += 60 + size + size % 2
         if name == b"//":
             names = text
         elif name not in (b"/", b"/SYM64/"):
             if name[:1] == b"/":
                 start = int(name[1:])
-                name = names[start:names.index(b"\n", start)]
+                name = names[start : names.index(b"\n", start)]
             yield os.fsdecode(name.removesuffix(b"/")), text

@@ -21,8 +21,10 @@ from compile.symbols import CODE, UNDEFINED, WEAK_CODE
 class WordsTest(unittest.TestCase):
     def test_places(self) -> None:
         words = Words("-I a -DX -O2 -flto a.c -lm -L b -MF c.d -MD -o out -fPIC other.o libomp.a".split())
-        self.assertEqual((["-I", "a", "-DX", "-fPIC"], ["a.c", "-lm", "-L", "b", "other.o"], ["-MF", "c.d", "-MD"], ["a.c"]),
-                         (words.compiling, words.linking, words.dependencies, words.sources))
+        self.assertEqual(
+            (["-I", "a", "-DX", "-fPIC"], ["a.c", "-lm", "-L", "b", "other.o"], ["-MF", "c.d", "-MD"], ["a.c"]),
+            (words.compiling, words.linking, words.dependencies, words.sources),
+        )
         self.assertEqual(("out", "-O1", None), (words.output, words.level, words.ends_with))
 
     def test_own(self) -> None:
@@ -51,7 +53,7 @@ class WordsTest(unittest.TestCase):
 
     def test_files(self) -> None:
         """A backslash is before any letter, in quotes too."""
-        self.assertEqual(["a b", "c\"d", "e'f", "", "g\\h", "ij"], words_of("'a b' \"c\\\"d\" 'e\\'f' '' g\\\\h\n i\\j"))
+        self.assertEqual(["a b", 'c"d', "e'f", "", "g\\h", "ij"], words_of("'a b' \"c\\\"d\" 'e\\'f' '' g\\\\h\n i\\j"))
         with tempfile.NamedTemporaryFile("w") as file:
             file.write("-c 'a b.c'\n")
             file.flush()
@@ -71,13 +73,24 @@ TRACED = (MARK, UNDEFINED)
 class LinkedTest(unittest.TestCase):
     def test_unknown(self) -> None:
         """What traced files call, and only another file has, unless that is a known one of the system's."""
-        own = part("a.o", 0, TRACED, ("f", UNDEFINED), ("g", UNDEFINED), ("strlen", UNDEFINED), ("data", UNDEFINED), ("own", CODE))
+        own = part(
+            "a.o",
+            0,
+            TRACED,
+            ("f", UNDEFINED),
+            ("g", UNDEFINED),
+            ("strlen", UNDEFINED),
+            ("data", UNDEFINED),
+            ("own", CODE),
+        )
         other = part("b.o", 1, ("f", CODE), ("unused", CODE), ("data", "D"))
         library, system = part("libx.so", 2, ("g", WEAK_CODE)), part("libc.so", 3, ("strlen", CODE))
         system.is_system = True
         linked = Linked([own, other, library, system])
-        self.assertEqual([("f", "b.o", True), ("g", "libx.so", True)],
-                         [(found.name, found.library, found.always) for found in linked.unknown({"strlen"}, set())])
+        self.assertEqual(
+            [("f", "b.o", True), ("g", "libx.so", True)],
+            [(found.name, found.library, found.always) for found in linked.unknown({"strlen"}, set())],
+        )
         self.assertEqual(["f", "g", "strlen"], [found.name for found in linked.unknown(set(), set())])
         self.assertEqual(["g"], [found.name for found in linked.unknown({"strlen"}, {"f"})])
 
@@ -89,7 +102,9 @@ class LinkedTest(unittest.TestCase):
             (part("b.o", 0, ("__tsan_read4", UNDEFINED)), ["an older spbags-cc"]),
             (part("b.o", 0, ("strlen", CODE)), ["its strlen would be taken for the C library's"]),
             (part("b.o", 0, ("f", WEAK_CODE)), ["its f is used in place of that of a.o"]),
-            (part("b.o", 2, ("f", WEAK_CODE)), []), (part("b.o", 2, ("f", CODE)), ["its f is used in place of that of a.o"])]
+            (part("b.o", 2, ("f", WEAK_CODE)), []),
+            (part("b.o", 2, ("f", CODE)), ["its f is used in place of that of a.o"]),
+        ]
         for found, wanted in cases_of:
             with self.subTest(wanted), unittest.mock.patch.object(Part, "texts", lambda _: [b""]):
                 faults = Linked([own, found]).faults({"strlen"})
@@ -105,7 +120,10 @@ class LinkedTest(unittest.TestCase):
         own = part("a.o", 0, TRACED, ("f", UNDEFINED), ("g", UNDEFINED))
         found = Linked([own, part("b.o", 1, ("f", CODE), ("g", CODE))]).unknown(set(), set())
         text = stubs(found, ["n::c"])
-        self.assertEqual([0, 40], [int(line.split("+")[1].split("(")[0]) for line in text.splitlines() if "__spbags_unknown+" in line])
+        self.assertEqual(
+            [0, 40],
+            [int(line.split("+")[1].split("(")[0]) for line in text.splitlines() if "__spbags_unknown+" in line],
+        )
         self.assertEqual(3, text.count("\t.quad "))
 
 
@@ -113,9 +131,17 @@ class LibraryTest(unittest.TestCase):
     def test_wrappers(self) -> None:
         """What is read and written before the call stands before it, and what names the result behind."""
         text = Function("void *f(const char *from, char *to) | from, 4 | to, 8; result, 2 |").wrapper("f")
-        places = [text.index(part) for part in ("void *__wrap_f(const char *from, char *to) {", "NOTE_READ(from, 4, __wrap_f);",
-                                                "NOTE_WRITE(to, 8, __wrap_f);", "void * result = __real_f(from, to);",
-                                                "NOTE_WRITE(result, 2, __wrap_f);", "return result;")]
+        places = [
+            text.index(part)
+            for part in (
+                "void *__wrap_f(const char *from, char *to) {",
+                "NOTE_READ(from, 4, __wrap_f);",
+                "NOTE_WRITE(to, 8, __wrap_f);",
+                "void * result = __real_f(from, to);",
+                "NOTE_WRITE(result, 2, __wrap_f);",
+                "return result;",
+            )
+        ]
         self.assertEqual(sorted(places), places)
 
     def test_lists(self) -> None:

@@ -24,9 +24,15 @@ class DirectivesTest(unittest.TestCase):
     def test_schedules(self) -> None:
         """The size is 1, and more by 2 for `static`, by 4 for `nowait`, by 8 for `lastprivate`, and by 16 for variables of
         each thread."""
-        for clauses, size in (("", 1), (" schedule(static, 4)", 3), (" schedule(monotonic: static)", 3),
-                              (" schedule(guided) nowait", 5), (" lastprivate(x)", 25), (" private(x)", 17),
-                              (" reduction(+: x) nowait schedule(static)", 23)):
+        for clauses, size in (
+            ("", 1),
+            (" schedule(static, 4)", 3),
+            (" schedule(monotonic: static)", 3),
+            (" schedule(guided) nowait", 5),
+            (" lastprivate(x)", 25),
+            (" private(x)", 17),
+            (" reduction(+: x) nowait schedule(static)", 23),
+        ):
             with self.subTest(clauses):
                 made = rewritten(f"#pragma omp for{clauses}\n;\n")
                 self.assertEqual([f"schedule(dynamic,{size})"], re.findall(r"schedule\([^)]*\)", made))
@@ -35,7 +41,9 @@ class DirectivesTest(unittest.TestCase):
         """Each says its kind before it, in the order of the hooks' list."""
         for directive, kind in (("parallel", 0), ("single", 1), ("master", 2), ("masked", 2), ("simd", 3)):
             with self.subTest(directive):
-                self.assertEqual([str(kind)], re.findall(r"__spbags_body\((\d)\)", rewritten(f"#pragma omp {directive}\n;\n")))
+                self.assertEqual(
+                    [str(kind)], re.findall(r"__spbags_body\((\d)\)", rewritten(f"#pragma omp {directive}\n;\n"))
+                )
         self.assertNotIn("__spbags_body", rewritten("#pragma omp task\n;\n#pragma omp taskwait\n"))
 
     def test_sections(self) -> None:
@@ -47,8 +55,10 @@ class DirectivesTest(unittest.TestCase):
     def test_lines(self) -> None:
         """What follows a directive is on its own line, by the last line that names one."""
         made, _ = openmp.rewritten(HEAD + "\n#pragma omp single\nx();\n", False)
-        before = made[:made.index("x();")]
-        number, behind = re.findall(r'(?m)^# (\d+) "own\.c"\n((?:.*\n)*)\Z', before[before.rindex("\n# "):].lstrip("\n"))[0]
+        before = made[: made.index("x();")]
+        number, behind = re.findall(
+            r'(?m)^# (\d+) "own\.c"\n((?:.*\n)*)\Z', before[before.rindex("\n# ") :].lstrip("\n")
+        )[0]
         self.assertEqual(3, int(number) + behind.count("\n"))
 
     def test_strings(self) -> None:
@@ -61,8 +71,12 @@ class DirectivesTest(unittest.TestCase):
 
     def test_scopes(self) -> None:
         """The hooks wait in place of one whose threads combine their variables."""
-        for clauses, kinds in ((" reduction(+: x)", ["6", "8"]), (" reduction(+: x) nowait", ["7", "8"]), (" private(x)", []),
-                               (" reduction(task, +: x)", [])):
+        for clauses, kinds in (
+            (" reduction(+: x)", ["6", "8"]),
+            (" reduction(+: x) nowait", ["7", "8"]),
+            (" private(x)", []),
+            (" reduction(task, +: x)", []),
+        ):
             with self.subTest(clauses):
                 made = rewritten(f"#pragma omp scope{clauses}\n;\n")
                 self.assertEqual(kinds, re.findall(r"__spbags_body\((\d)\)", made))
@@ -76,15 +90,24 @@ class RefusedTest(unittest.TestCase):
 
     def test_directives(self) -> None:
         for directive, wanted in (
-                ("target teams", "target"), ("parallel loop", "loop (write `for')"), ("metadirective when(a: b)", "metadirective"),
-                ("for reduction(inscan, +: x)", "scan"), ("task detach(e)", "detach"), ("ordered depend(source)", "depend"),
-                ("ordered", ""), ("task depend(in: x)", ""), ("parallel num_threads(target)", "")):
+            ("target teams", "target"),
+            ("parallel loop", "loop (write `for')"),
+            ("metadirective when(a: b)", "metadirective"),
+            ("for reduction(inscan, +: x)", "scan"),
+            ("task detach(e)", "detach"),
+            ("ordered depend(source)", "depend"),
+            ("ordered", ""),
+            ("task depend(in: x)", ""),
+            ("parallel num_threads(target)", ""),
+        ):
             with self.subTest(directive):
                 self.assertEqual(wanted, self.refused(f"#pragma omp {directive}\n;\n"))
 
     def test_places(self) -> None:
-        self.assertEqual(["own.c:2: error: OpenMP's target can't be traced: #pragma omp target"],
-                         openmp.rewritten(HEAD + "\n#pragma omp target\n;\n")[1])
+        self.assertEqual(
+            ["own.c:2: error: OpenMP's target can't be traced: #pragma omp target"],
+            openmp.rewritten(HEAD + "\n#pragma omp target\n;\n")[1],
+        )
 
     def test_attributes(self) -> None:
         self.assertIn("write #pragma omp", openmp.rewritten(HEAD + "[[omp::directive(single)]] ;\n")[1][0])
@@ -106,8 +129,10 @@ class MessagesTest(unittest.TestCase):
         self.assertEqual([], list(openmp.ignored('# 1 "/usr/include/x.h" 1 3\n' + text)))
 
     def test_unknown(self) -> None:
-        said = "/usr/bin/ld: x.o: in function `main':\nx.c:3: undefined reference to `omp_fulfill_event'\n" \
-               "x.c:4: undefined reference to `other'\n"
+        said = (
+            "/usr/bin/ld: x.o: in function `main':\nx.c:3: undefined reference to `omp_fulfill_event'\n"
+            "x.c:4: undefined reference to `other'\n"
+        )
         self.assertEqual(["x.c:3: omp_fulfill_event can't be traced: it is OpenMP's detach"], openmp.unknown(said))
 
 

@@ -25,16 +25,17 @@ def names(text: str, target: Target) -> list[str]:
 class TakenTest(unittest.TestCase):
     def test_steps(self) -> None:
         for text, target, wanted in (
-                ("int main(void) { return 0; }\n", C, []),
-                ('int f(void) __asm__("g");\n', C, []),
-                ('void f(void);\nasm("incl cell");\n', C, ["assembly"]),
-                ("void f(void) { _Cilk_spawn g(); _Cilk_sync; }\n", C, ["Cilk"]),
-                (PARALLEL_LOOP, OPENMP, ["OpenMP"]),
-                (PARALLEL_LOOP, Target(False, False, False, warns=False), []),
-                ("__attribute__((always_inline)) int f(void);\n", C, ["attributes"]),
-                ("extern template class basic_string<char>;\n", C, []),
-                ("extern template class basic_string<char>;\n", CPLUSPLUS, ["strings"]),
-                ("int _Hyperobject(a, b) sum;\nvoid f(void) { _Cilk_sync; }\n", C, ["reducers", "Cilk"])):
+            ("int main(void) { return 0; }\n", C, []),
+            ('int f(void) __asm__("g");\n', C, []),
+            ('void f(void);\nasm("incl cell");\n', C, ["assembly"]),
+            ("void f(void) { _Cilk_spawn g(); _Cilk_sync; }\n", C, ["Cilk"]),
+            (PARALLEL_LOOP, OPENMP, ["OpenMP"]),
+            (PARALLEL_LOOP, Target(False, False, False, warns=False), []),
+            ("__attribute__((always_inline)) int f(void);\n", C, ["attributes"]),
+            ("extern template class basic_string<char>;\n", C, []),
+            ("extern template class basic_string<char>;\n", CPLUSPLUS, ["strings"]),
+            ("int _Hyperobject(a, b) sum;\nvoid f(void) { _Cilk_sync; }\n", C, ["reducers", "Cilk"]),
+        ):
             with self.subTest(text):
                 self.assertEqual(wanted, names(text, target))
 
@@ -43,7 +44,7 @@ class TakenTest(unittest.TestCase):
         for target, wanted in ((C, "own.c:1: warning: "), (OPENMP, ""), (Target(False, False, False, warns=False), "")):
             with contextlib.redirect_stderr(io.StringIO()) as said:
                 names(PARALLEL_LOOP, target)
-            self.assertEqual(wanted, said.getvalue()[:len("own.c:1: warning: ")])
+            self.assertEqual(wanted, said.getvalue()[: len("own.c:1: warning: ")])
 
     def test_faults(self) -> None:
         """Each step tells of what it can't trace, whatever the others do."""
@@ -73,21 +74,22 @@ class TakenTest(unittest.TestCase):
 
 class AssemblyTest(unittest.TestCase):
     def told(self, text: str) -> list[str]:
-        made = assembly.outside(OWN + text)[len(OWN + text):]
+        made = assembly.outside(OWN + text)[len(OWN + text) :]
         return [line.partition("__spbags_asm_outside(")[2].rpartition(");")[0] for line in made.splitlines() if line]
 
     def test_outside(self) -> None:
         for text, wanted in (
-                ('asm("nop");', ['"own.c:1", __extension__("nop")']),
-                ('\nasm("nop" "; ret");', ['"own.c:2", __extension__("nop" "; ret")']),
-                ('extern "C" { asm("nop"); }', ['"own.c:1", __extension__("nop")']),
-                ('namespace n { asm("nop"); }', ['"own.c:1", __extension__("nop")']),
-                ('void f(void) { asm("nop"); if (x) asm("nop"); }', []),
-                ('__attribute__((naked)) void f(void) { asm("ret"); }', ['"own.c:1", __extension__("ret")']),
-                ('__attribute__((naked)) void f(void) { asm("incl %c0" : : "i"(&x)); }', ['"own.c:1", __extension__(0)']),
-                ('void f(void) <% asm("nop"); if (x<:1:>) <% asm("nop"); %> %>', []),
-                ('int f(void) asm("g");', []),
-                ('const char *s = "asm(";', [])):
+            ('asm("nop");', ['"own.c:1", __extension__("nop")']),
+            ('\nasm("nop" "; ret");', ['"own.c:2", __extension__("nop" "; ret")']),
+            ('extern "C" { asm("nop"); }', ['"own.c:1", __extension__("nop")']),
+            ('namespace n { asm("nop"); }', ['"own.c:1", __extension__("nop")']),
+            ('void f(void) { asm("nop"); if (x) asm("nop"); }', []),
+            ('__attribute__((naked)) void f(void) { asm("ret"); }', ['"own.c:1", __extension__("ret")']),
+            ('__attribute__((naked)) void f(void) { asm("incl %c0" : : "i"(&x)); }', ['"own.c:1", __extension__(0)']),
+            ('void f(void) <% asm("nop"); if (x<:1:>) <% asm("nop"); %> %>', []),
+            ('int f(void) asm("g");', []),
+            ('const char *s = "asm(";', []),
+        ):
             with self.subTest(text):
                 self.assertEqual(wanted, self.told(text))
 
@@ -95,13 +97,16 @@ class AssemblyTest(unittest.TestCase):
 class AttributesTest(unittest.TestCase):
     def test_without(self) -> None:
         for text, wanted in (
-                ("__attribute__((always_inline)) int f(void);", "__attribute__((__unused__)) int f(void);"),
-                ("[[gnu::always_inline]] int f();", "[[gnu::__unused__]] int f();"),
-                ('__attribute__((no_sanitize("thread"))) int f(void);', "__attribute__((__unused__)) int f(void);"),
-                ("int no_sanitize = 1;", "int no_sanitize = 1;"),
-                ('const char *s = "always_inline";', 'const char *s = "always_inline";'),
-                ("#pragma clang attribute push(__attribute__((no_sanitize_thread)))",
-                 '#pragma clang attribute push(__attribute__((annotate(""))))')):
+            ("__attribute__((always_inline)) int f(void);", "__attribute__((__unused__)) int f(void);"),
+            ("[[gnu::always_inline]] int f();", "[[gnu::__unused__]] int f();"),
+            ('__attribute__((no_sanitize("thread"))) int f(void);', "__attribute__((__unused__)) int f(void);"),
+            ("int no_sanitize = 1;", "int no_sanitize = 1;"),
+            ('const char *s = "always_inline";', 'const char *s = "always_inline";'),
+            (
+                "#pragma clang attribute push(__attribute__((no_sanitize_thread)))",
+                '#pragma clang attribute push(__attribute__((annotate(""))))',
+            ),
+        ):
             with self.subTest(text):
                 self.assertEqual(OWN + wanted, attributes.without(OWN + text))
 
@@ -113,8 +118,10 @@ class AttributesTest(unittest.TestCase):
 
 class ReducersTest(unittest.TestCase):
     def test_attribute(self) -> None:
-        self.assertEqual("int __attribute__((spbags_reducer(__spbags_functions(zero, add)))) sum; // 2",
-                         reducers.rewritten("int _Hyperobject(zero, add) sum; // 2"))
+        self.assertEqual(
+            "int __attribute__((spbags_reducer(__spbags_functions(zero, add)))) sum; // 2",
+            reducers.rewritten("int _Hyperobject(zero, add) sum; // 2"),
+        )
         self.assertEqual("int __attribute__((spbags_reducer)) *view;", reducers.rewritten("int _Hyperobject *view;"))
         self.assertEqual('"_Hyperobject"', reducers.rewritten('"_Hyperobject"'))
 
@@ -127,14 +134,15 @@ class LambdasTest(unittest.TestCase):
 
     def test_plain(self) -> None:
         for text, wanted in (
-                ("[](int x, int y) { return x + y; }", True),
-                ("[](auto x, auto y) { return std::max(x, y); }", True),
-                ("[](int x, int y) { int z = x; return z + y; }", True),
-                ("[](int x, int y) { return x + other; }", False),
-                ("[](int x, int y) { return g(x); }", False),
-                ("[](auto x, auto y) { return x(y); }", False),
-                ("[&](int x, int y) { return x + y; }", False),
-                ("[](int &x, node y) { return x + y; }", False)):
+            ("[](int x, int y) { return x + y; }", True),
+            ("[](auto x, auto y) { return std::max(x, y); }", True),
+            ("[](int x, int y) { int z = x; return z + y; }", True),
+            ("[](int x, int y) { return x + other; }", False),
+            ("[](int x, int y) { return g(x); }", False),
+            ("[](auto x, auto y) { return x(y); }", False),
+            ("[&](int x, int y) { return x + y; }", False),
+            ("[](int &x, node y) { return x + y; }", False),
+        ):
             with self.subTest(text):
                 self.assertEqual(wanted, self.is_plain(text))
 

@@ -9,8 +9,17 @@ sys.dont_write_bytecode = True
 sys.path.insert(0, os.path.dirname(os.path.dirname(os.path.realpath(__file__))))
 import cases
 from compile.line_markers import Files
-from tokens import (arguments_of, blanked, call_after, ends_label, is_lvalue, own_constants, statement_start, tokens_of,
-                    without)
+from tokens import (
+    arguments_of,
+    blanked,
+    call_after,
+    ends_label,
+    is_lvalue,
+    own_constants,
+    statement_start,
+    tokens_of,
+    without,
+)
 
 
 MARKED = '# 1 "own.c"\nint one;\n# 1 "/usr/include/x.h" 1 3\nint system;\n# 2 "own.c" 2\nint two;\nint three;\n'
@@ -27,19 +36,22 @@ def at(text: str, word: str) -> int:
 class TokensTest(unittest.TestCase):
     def test_texts(self) -> None:
         for text, wanted in (
-                ("a->b >>= .5e-3 ... 'x'", ["a", "->", "b", ">>=", ".5e-3", "...", "'x'"]),
-                ("n = 1'000'000;", ["n", "=", "1'000'000", ";"]),
-                ('s = R"(a " b)" u8"c";', ["s", "=", 'R"(a " b)"', "u8", '"c"', ";"]),
-                ("t <:0:> <% %>", ["t", "[", "0", "]", "{", "}"]),
-                ("f<::g>();", ["f", "<", "::", "g", ">", "(", ")", ";"])):
+            ("a->b >>= .5e-3 ... 'x'", ["a", "->", "b", ">>=", ".5e-3", "...", "'x'"]),
+            ("n = 1'000'000;", ["n", "=", "1'000'000", ";"]),
+            ('s = R"(a " b)" u8"c";', ["s", "=", 'R"(a " b)"', "u8", '"c"', ";"]),
+            ("t <:0:> <% %>", ["t", "[", "0", "]", "{", "}"]),
+            ("f<::g>();", ["f", "<", "::", "g", ">", "(", ")", ";"]),
+        ):
             with self.subTest(text):
                 self.assertEqual(wanted, texts(text))
 
     def test_places(self) -> None:
         """Each token has its line of the program, and knows a header of the system."""
         found = {token.text: (token.place(), bool(token.system)) for token in tokens_of(MARKED)}
-        self.assertEqual({"one": ("own.c:1", False), "system": ("/usr/include/x.h:1", True), "three": ("own.c:3", False)},
-                         {name: found[name] for name in ("one", "system", "three")})
+        self.assertEqual(
+            {"one": ("own.c:1", False), "system": ("/usr/include/x.h:1", True), "three": ("own.c:3", False)},
+            {name: found[name] for name in ("one", "system", "three")},
+        )
 
     def test_lines(self) -> None:
         """A string may hold some."""
@@ -55,14 +67,25 @@ class TokensTest(unittest.TestCase):
 
     def test_statements(self) -> None:
         """Where the statement of the word X begins."""
-        for text, first in (("{ a(); x = X; }", "x"), ("{ if (a) X; }", "X"), ("{ one: X; }", "X"),
-                            ("{ case 1: x = X; }", "x"), ("{ n = a ? b : X; }", "n"), ("{ for (;;) (void)X; }", "(")):
+        for text, first in (
+            ("{ a(); x = X; }", "x"),
+            ("{ if (a) X; }", "X"),
+            ("{ one: X; }", "X"),
+            ("{ case 1: x = X; }", "x"),
+            ("{ n = a ? b : X; }", "n"),
+            ("{ for (;;) (void)X; }", "("),
+        ):
             with self.subTest(text):
                 tokens = tokens_of(text)
                 self.assertEqual(first, tokens[statement_start(tokens, at(text, "X"))].text)
 
     def test_labels(self) -> None:
-        for text, wanted in (("{ here: ;", True), ("{ default: ;", True), ("{ case 1: ;", True), ("{ a ? b : c;", False)):
+        for text, wanted in (
+            ("{ here: ;", True),
+            ("{ default: ;", True),
+            ("{ case 1: ;", True),
+            ("{ a ? b : c;", False),
+        ):
             with self.subTest(text):
                 self.assertEqual(wanted, ends_label(tokens_of(text), at(text, ":")))
 
@@ -74,13 +97,26 @@ class TokensTest(unittest.TestCase):
                 self.assertEqual(wanted, opening and f"{tokens[opening].text} {tokens[opening + 1].text}")
 
     def test_lvalues(self) -> None:
-        for text, wanted in (("*p", True), ("a[i].x", True), ("a->b", True), ("(a)", True), ("int x", False), ("f(a)", False)):
+        for text, wanted in (
+            ("*p", True),
+            ("a[i].x", True),
+            ("a->b", True),
+            ("(a)", True),
+            ("int x", False),
+            ("f(a)", False),
+        ):
             with self.subTest(text):
                 self.assertEqual(wanted, is_lvalue(tokens_of(text + " ="), 0, len(texts(text))))
 
     def test_constants(self) -> None:
         """A pointer to what is constant isn't constant itself."""
-        for text, wanted in (("const int x", 1), ("const int *x", 0), ("int *const x", 1), ("const T<int *> x", 1), ("int *const *x", 0)):
+        for text, wanted in (
+            ("const int x", 1),
+            ("const int *x", 0),
+            ("int *const x", 1),
+            ("const T<int *> x", 1),
+            ("int *const *x", 0),
+        ):
             with self.subTest(text):
                 tokens = tokens_of(text)
                 self.assertEqual(wanted, len(own_constants(tokens, 0, len(tokens) - 1)))
@@ -88,14 +124,21 @@ class TokensTest(unittest.TestCase):
 
 class BlankedTest(unittest.TestCase):
     def test_strings(self) -> None:
-        for text, wanted in (('f("(a", \'}\', 1);', 'f("  ", \' \', 1);'), (r'"\"(" )', '"   " )'),
-                             ('R"x(")")x" (', 'R"       " ('), ("1'000'0 '('", "1'000'0 ' '"), ("<% <::a %>", "{  <::a } ")):
+        for text, wanted in (
+            ("f(\"(a\", '}', 1);", "f(\"  \", ' ', 1);"),
+            (r'"\"(" )', '"   " )'),
+            ('R"x(")")x" (', 'R"       " ('),
+            ("1'000'0 '('", "1'000'0 ' '"),
+            ("<% <::a %>", "{  <::a } "),
+        ):
             with self.subTest(text):
                 self.assertEqual(wanted, blanked(text))
 
     def test_places(self) -> None:
         text = 'a R"(\n(\n)" b'
-        self.assertEqual((len(text), 2, text.index("b")), (len(blanked(text)), blanked(text).count("\n"), blanked(text).index("b")))
+        self.assertEqual(
+            (len(text), 2, text.index("b")), (len(blanked(text)), blanked(text).count("\n"), blanked(text).index("b"))
+        )
 
     def test_without(self) -> None:
         self.assertEqual('f("no x"); ', without('f("no x"); x', re.compile("x")))
@@ -104,8 +147,10 @@ class BlankedTest(unittest.TestCase):
 class FilesTest(unittest.TestCase):
     def test_places(self) -> None:
         files = Files(MARKED)
-        self.assertEqual([("own.c", 1), ("/usr/include/x.h", 1), ("own.c", 3)],
-                         [files.place(MARKED.index(word)) for word in ("one", "system", "three")])
+        self.assertEqual(
+            [("own.c", 1), ("/usr/include/x.h", 1), ("own.c", 3)],
+            [files.place(MARKED.index(word)) for word in ("one", "system", "three")],
+        )
         self.assertEqual([False, True], [files.at(MARKED.index(word))[1] for word in ("one", "system")])
 
     def test_own(self) -> None:
