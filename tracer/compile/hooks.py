@@ -16,11 +16,16 @@ from installation import ARCHIVE, CRATES, HERE, IS_INSTALLED
 OWN = set("malloc calloc realloc free aligned_alloc memalign valloc pvalloc posix_memalign malloc_usable_size".split())
 # The other names that the hooks define for programs and for the detector.
 FOR_PROGRAMS = re.compile("_|GOMP_|omp_|rattle_")
-SOURCES = os.path.join(HERE, "hooks")
 # What the objects depend on, beside the sources.
 BESIDE = ("spbags_cilk.h", "include/spbags_inside.h", "library.table", "compile/library.py", "compile/hooks.py")
 # Proves and builds the detector's library from its crate.
 BUILD = os.path.join(CRATES, "..", "build")
+
+
+def files_of_hooks() -> list[str]:
+    """As the tracer's folder has them, such as hooks/tell.c."""
+    folders = os.walk(os.path.join(HERE, "hooks"))
+    return sorted(os.path.relpath(os.path.join(folder, name), HERE) for folder, _, names in folders for name in names)
 
 
 def is_built() -> bool:
@@ -58,12 +63,12 @@ class Hooks:
 
     def digest(self) -> str:
         about = repr((self.compiler.command, self.compiler.about)).replace("clang++", "clang").replace("g++", "gcc")
-        files = [os.path.join(SOURCES, name) for name in sorted(os.listdir(SOURCES))]
-        return cache.digest((about, self.flags), files + [os.path.join(HERE, name) for name in BESIDE])
+        names = [*files_of_hooks(), *BESIDE]
+        return cache.digest((about, self.flags, names), [os.path.join(HERE, name) for name in names])
 
     def compile_source(self, name: str) -> str:
-        made = os.path.join(self.folder, name + ".o")
-        run(*self.compiler.command, *self.flags, f"-I{self.folder}", "-c", os.path.join(SOURCES, name), "-o", made)
+        made = os.path.join(self.folder, name.replace("/", "-") + ".o")
+        run(*self.compiler.command, *self.flags, f"-I{self.folder}", "-c", os.path.join(HERE, name), "-o", made)
         return made
 
     def compile(self) -> str:
@@ -75,9 +80,9 @@ class Hooks:
         for name, text in (("library_names.h", table.declarations()), ("library_wrappers.h", table.wrappers())):
             with open(os.path.join(self.folder, name), "w", encoding="utf-8") as file:
                 file.write(text)
-        names = [name for name in sorted(os.listdir(SOURCES)) if name.endswith(".c")]
+        names = [name for name in files_of_hooks() if name.endswith(".c")]
         if not self.words.openmp:
-            names = [name for name in names if not name.startswith("openmp_")]
+            names = [name for name in names if not name.startswith("hooks/openmp")]
         with ThreadPoolExecutor(len(os.sched_getaffinity(0))) as pool:
             objects = list(pool.map(self.compile_source, names))
         made = os.path.join(self.folder, "hooks.o")
