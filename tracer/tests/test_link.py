@@ -246,6 +246,12 @@ class OptionsTest(LinkTest):
         self.succeeds(SPBAGS_CC, "@words")
         self.assertEqual("a b\n", self.run_command("./from file", SPBAGS_TRACE="run.trace").out)
 
+    def test_steps(self):
+        """They are printed, and nothing is made."""
+        said = self.succeeds(SPBAGS_CC, "--steps", "-o", "fib", "fib.c").out
+        self.assertEqual(["preprocess", "Cilk", "compile"], [line.split(": ")[1] for line in said.splitlines()])
+        self.assertFalse(os.path.exists("fib"))
+
     def test_syntax_only(self):
         self.succeeds(SPBAGS_CC, "-fsyntax-only", "-DTEXT=", "fib.c")
         self.assertFalse(os.path.exists("fib.o") or os.path.exists("a.out"))
