@@ -44,7 +44,8 @@ class Kept:
         self.say, self.fail, self.ahead, self.folder = say, fail, ahead, folder(ahead)
 
     def file(self, name: str, make: Callable[[], str], doing: str = "") -> str:
-        """The file of this name, which has a hash. Where none is kept `make` makes one; what takes long has words for it."""
+        """The file of this name, which has a hash. Where none is kept `make` makes one; what takes long has words for
+        it."""
         return self.found(name) or self.made(name, make, doing)
 
     def made(self, name: str, make: Callable[[], str], doing: str) -> str:

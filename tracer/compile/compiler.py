@@ -21,10 +21,10 @@ PLAIN = "-g -gdwarf-4 -fno-inline -fno-omit-frame-pointer -fno-optimize-sibling-
 # Some processors are slow where a branch crosses such a boundary.
 ALIGNED, ALIGNED_CLANG = "-Wa,-mbranches-within-32B-boundaries", "-mbranches-within-32B-boundaries"
 # Each variable keeps memory of its own, and arguments on the stack are pushed for each call. What the plugin puts there
-# calls hooks, which gcc doesn't know: so nothing is kept below the stack's end, and that moves right before a call alone.
-TRACED_GCC = PLAIN + (
-    "-fstack-reuse=none -mno-accumulate-outgoing-args -mno-red-zone -fno-combine-stack-adjustments -fno-defer-pop".split()
-)
+# calls hooks, which gcc doesn't know: so nothing is kept below the stack's end, and that moves right before a call
+# alone.
+STACK_GCC = "-mno-accumulate-outgoing-args -mno-red-zone -fno-combine-stack-adjustments -fno-defer-pop"
+TRACED_GCC = [*PLAIN, "-fstack-reuse=none", *STACK_GCC.split()]
 TRACED_CLANG = [*PLAIN, "-mllvm", "-no-stack-coloring", "-Qunused-arguments"]
 COMPILERS = [["g++"], ["clang++"]] if IS_CPLUSPLUS else [["gcc"], ["clang"]]
 # The tests, as macros of the assembler.

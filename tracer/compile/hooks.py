@@ -44,7 +44,8 @@ def detector_library() -> str:
 
 
 class Hooks:
-    """Those of one link, in the form that its words ask for. A compiler of C++ has those of the compiler of C beside it."""
+    """Those of one link, in the form that its words ask for. A compiler of C++ has those of the compiler of C beside
+    it."""
 
     def __init__(self, compiler: Compiler, folder: str) -> None:
         self.compiler, self.words, self.folder = compiler, compiler.words, folder
@@ -88,8 +89,8 @@ class Hooks:
         made = os.path.join(self.folder, "hooks.o")
         run("ld", "-r", *objects, "-o", made)
         # What the compiler itself calls there is no call of the program. The hooks know their code by a section. And
-        # where code comes from has a stub, also if the hooks see what is read there. The names by which the hooks' files
-        # know each other are none of the program's.
+        # where code comes from has a stub, also if the hooks see what is read there. The names by which the hooks'
+        # files know each other are none of the program's.
         inner = {name for name in link_inputs.names_of(made) if not FOR_PROGRAMS.match(name)} - OWN
         run(
             "objcopy",

@@ -32,7 +32,8 @@ class Link:
             self.make_program()
 
     def looked(self, items: list[str]) -> tuple[list[str], list[link_inputs.Part] | None]:
-        """The words of a link with the objects of shared libraries in their place, and what the linker takes by them."""
+        """The words of a link with the objects of shared libraries in their place, and what the linker takes by
+        them."""
         libraries = shared_libraries.Libraries(self.folder)
         parts = link_inputs.parts_of([*self.command, "-no-pie", *items], self.folder)
         for part in parts or []:

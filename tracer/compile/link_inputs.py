@@ -18,7 +18,8 @@ if TYPE_CHECKING:
 # The libraries of the C compiler itself.
 SYSTEM = re.compile(
     r"(?:lib(?:c|m|mvec|pthread|dl|rt|util|resolv|crypt|nsl|anl|stdc\+\+|stdc\+\+fs|supc\+\+|gcc|"
-    r"gcc_s|gcc_eh|gcov|ssp|atomic|quadmath|c_nonshared|pthread_nonshared|ssp_nonshared)|ld-linux-x86-64)[-.0-9]*\.(?:so|a)\b.*|crt\w+\.o|[gmSr]*crt1\.o"
+    r"gcc_s|gcc_eh|gcov|ssp|atomic|quadmath|c_nonshared|pthread_nonshared|ssp_nonshared)|ld-linux-x86-64)"
+    r"[-.0-9]*\.(?:so|a)\b.*|crt\w+\.o|[gmSr]*crt1\.o"
 )
 # What these give out is code that nothing is known of either.
 GIVES_CODE = {"dlsym", "dlvsym"}
@@ -30,8 +31,10 @@ OBJECT, SHARED = 1, 3
 LTO = b".gnu.lto_"
 MEMBER = re.compile(r"\((.+)\)([^()]+)")
 
-# A function, its name in the source, the file that has it, and whether each call counts; the others count where something
-# may run beside them.
+AGAIN = "compile it with spbags-cc"
+
+# A function, its name in the source, the file that has it, and whether each call counts; the others count where
+# something may run beside them.
 Unknown = namedtuple("Unknown", "name shown library always")
 
 
@@ -158,22 +161,26 @@ class Linked:
     def faults_of(self, part: Part, wrapped: set[str]) -> Iterator[str]:
         parallel = next((name for name in sorted(part.wanted) if PARALLEL.match(name)), None)
         if any(name.startswith("__tsan_") for name in part.wanted):
-            yield f"{part.name()}: an older spbags-cc, or another compiler with -fsanitize=thread, compiled this: " "compile it again with spbags-cc"
+            older = "an older spbags-cc, or another compiler with -fsanitize=thread, compiled this"
+            yield f"{part.name()}: {older}: compile it again with spbags-cc"
         elif parallel:
-            yield f"{part.name()}: spbags-cc didn't compile this, and it has parallel code ({parallel}): compile it " "with spbags-cc"
+            yield f"{part.name()}: spbags-cc didn't compile this, and it has parallel code ({parallel}): {AGAIN}"
         elif part.is_for_lto():
-            yield f"{part.name()}: spbags-cc didn't compile this, and what it does isn't known before the link: " "compile it with spbags-cc, or without -flto"
+            unknown = "spbags-cc didn't compile this, and what it does isn't known before the link"
+            yield f"{part.name()}: {unknown}: {AGAIN}, or without -flto"
         else:
-            yield from self.doubles(part, wrapped)
+            yield from (
+                f"{part.name()}: spbags-cc didn't compile this, and its {line}" for line in self.doubles(part, wrapped)
+            )
 
     def doubles(self, part: Part, wrapped: set[str]) -> Iterator[str]:
         """Functions that this file has and others take for their own, or that would be taken for the library's."""
         for name in sorted(wrapped & part.functions()):
-            yield f"{part.name()}: spbags-cc didn't compile this, and its {name} would be taken for the C library's: " "compile it with spbags-cc"
+            yield f"{name} would be taken for the C library's: {AGAIN}"
         for other in self.traced:
             taken = [name for name in part.functions() & other.functions() if part.is_taken_for(name, other)]
             if taken:
-                yield f"{part.name()}: spbags-cc didn't compile this, and its {min(taken)} is used in place of that of " f"{other.name()}: compile it with spbags-cc, or put it after the other one"
+                yield f"{min(taken)} is used in place of that of {other.name()}: {AGAIN}, or put it after the other one"
 
     def unknown(self, known: set[str], hooks: set[str]) -> list[Unknown]:
         """The functions that traced files call and nothing is known of. KNOWN are those of the system's libraries, and
@@ -214,9 +221,9 @@ def demangled(names: list[str]) -> list[str]:
 
 
 def wrapping(found: Linked, names: list[str], folder: str) -> list[str]:
-    """The words that have the hooks called in place of these functions of the library. One of them that the program has
-    itself isn't the library's, so it is called itself, by the hooks too. What else the program calls has to be there, as
-    without hooks, which alone don't want it."""
+    """The words that have the hooks called in place of these functions of the library. One of them that the program
+    has itself isn't the library's, so it is called itself, by the hooks too. What else the program calls has to be
+    there, as without hooks, which alone don't want it."""
     own = {name for part in found.traced for name in part.defined}
     called = {name for part in [*found.traced, *found.others] if not part.is_system for name in part.wanted} - own
     text, made = os.path.join(folder, "called.s"), os.path.join(folder, "called.o")

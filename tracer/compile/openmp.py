@@ -1,5 +1,5 @@
-"""Rewrites the OpenMP of a preprocessed source: every loop gets the schedule `dynamic`, so that the runtime is asked for
-each iteration. What can't be traced is refused, with its file and line."""
+"""Rewrites the OpenMP of a preprocessed source: every loop gets the schedule `dynamic`, so that the runtime is asked
+for each iteration. What can't be traced is refused, with its file and line."""
 from __future__ import annotations
 
 import functools

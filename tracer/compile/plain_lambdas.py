@@ -15,7 +15,7 @@ CALL = re.compile(
 HEADER = re.compile(r'^# 1 "[^"\n]*/spbags/parallel\.h"', re.MULTILINE)
 NO_TYPES = {"const", "&", "&&", "std", "::"}
 SCALARS = set(
-    "int long short char unsigned signed float double _Bool bool wchar_t size_t ssize_t ptrdiff_t " "__int128".split()
+    "int long short char unsigned signed float double _Bool bool wchar_t size_t ssize_t ptrdiff_t __int128".split()
 )
 SCALAR = re.compile(r"u?int(?:_fast|_least)?(?:8|16|32|64|ptr|max)_t|__spbags_\w+")
 STATEMENTS = {"if", "while", "for", "switch", "return", "static_cast", "const_cast", "reinterpret_cast", "sizeof"}

@@ -1,5 +1,5 @@
-"""Other programs that a command starts, and a folder for their files. The modules `subprocess` and `tempfile` take longer
-to be read than a compiler takes for a small source."""
+"""Other programs that a command starts, and a folder for their files. The modules `subprocess` and `tempfile` take
+longer to be read than a compiler takes for a small source."""
 from __future__ import annotations
 
 import os

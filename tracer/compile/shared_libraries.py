@@ -1,5 +1,6 @@
-"""Shared libraries of a traced program. The file of one has, beside what the compiler makes of it, the objects that it is
-made of and the names of the libraries that it needs. A program that is linked with it gets these objects as its own."""
+"""Shared libraries of a traced program. The file of one has, beside what the compiler makes of it, the objects that it
+is made of and the names of the libraries that it needs. A program that is linked with it gets these objects as its
+own."""
 from __future__ import annotations
 
 import os

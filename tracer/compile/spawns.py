@@ -128,7 +128,7 @@ class Spawn:
             sign = self.tokens[self.spawn - 1].text
             ends = [
                 f"*__spbags_target {sign} __spbags_result;",
-                "__spbags_stored(__spbags_target, " f"sizeof *__spbags_target, {HELD}, sizeof __spbags_result); }}",
+                f"__spbags_stored(__spbags_target, sizeof *__spbags_target, {HELD}, sizeof __spbags_result); }}",
             ]
         made = [
             f"{{ __auto_type __spbags_f = ({self.piece(self.spawn + 1, self.opening - 1)});",

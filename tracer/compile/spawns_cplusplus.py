@@ -106,8 +106,8 @@ KEEPER, SPAWNED = "class __spbags_frame", "struct __spbags_spawned"
 
 
 def waits_at(tokens: list[Token], at: int | None) -> int | None:
-    """Where what is around this and waits for its children begins: the brace of a function, a scope or a `try` block, or
-    the bracket before an iteration of a loop. Or None."""
+    """Where what is around this and waits for its children begins: the brace of a function, a scope or a `try` block,
+    or the bracket before an iteration of a loop. Or None."""
     while at is not None and tokens[at].text != "}":
         before = statement_start(tokens, at) - 1
         if tokens[before].text == ")" and tokens[tokens[before].partner - 1].text == "_Cilk_for":

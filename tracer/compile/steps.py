@@ -1,5 +1,6 @@
-"""The steps by which a preprocessed source is rewritten, in their order: which sources take each, and a function from text
-to text, whose own text `spbags-cc --steps` prints. Most sources need few of them, so a module is imported where one does."""
+"""The steps by which a preprocessed source is rewritten, in their order: which sources take each, and a function from
+text to text, whose own text `spbags-cc --steps` prints. Most sources need few of them, so a module is imported where
+one does."""
 from __future__ import annotations
 
 import re

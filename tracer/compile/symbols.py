@@ -72,7 +72,8 @@ def what(about: int, section: int, sections: list[Section]) -> str:
 
 
 def members_of(file: str) -> Iterator[tuple[str, bytes]]:
-    """The name and the bytes of each member of an archive. Those of a thin one are files of their own for the linker."""
+    """The name and the bytes of each member of an archive. Those of a thin one are files of their own for the
+    linker."""
     data, at, names = opened(file), len("!<arch>\n"), b""
     while at + 60 <= len(data):
         name, size = data[at : at + 16].rstrip(), int(data[at + 48 : at + 58])

@@ -22,8 +22,8 @@ def rewritten(text: str, is_clang: bool = False) -> str:
 
 class DirectivesTest(unittest.TestCase):
     def test_schedules(self) -> None:
-        """The size is 1, and more by 2 for `static`, by 4 for `nowait`, by 8 for `lastprivate`, and by 16 for variables of
-        each thread."""
+        """The size is 1, and more by 2 for `static`, by 4 for `nowait`, by 8 for `lastprivate`, and by 16 for variables
+        of each thread."""
         for clauses, size in (
             ("", 1),
             (" schedule(static, 4)", 3),

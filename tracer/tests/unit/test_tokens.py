@@ -155,7 +155,8 @@ class FilesTest(unittest.TestCase):
 
     def test_own(self) -> None:
         """What a header of the system includes isn't the program's, whatever its flags say."""
-        text = '# 1 "own.c"\nA\n# 1 "/usr/include/x.h" 1 3\nB\n# 1 "y.h" 1\nC\n# 2 "/usr/include/x.h" 2 3\nD\n# 2 "own.c" 2\nE\n'
+        header = '# 1 "/usr/include/x.h" 1 3\nB\n# 1 "y.h" 1\nC\n# 2 "/usr/include/x.h" 2 3\nD\n'
+        text = f'# 1 "own.c"\nA\n{header}# 2 "own.c" 2\nE\n'
         own = "".join(text[begin:end] for begin, end in Files(text).own())
         self.assertEqual([True, False, False, False, True], [letter in own.replace('"', "") for letter in "ABCDE"])
 
