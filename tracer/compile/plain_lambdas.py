@@ -42,28 +42,6 @@ def is_number(tokens: list[Token], first: int, last: int) -> bool:
     return words == ["auto"] or is_scalar(words)
 
 
-def is_plain(tokens: list[Token], first: int, last: int) -> bool:
-    """Whether this names a function, or is one, that touches nothing but its parameters: it calls none, and names no
-    other variable."""
-    if tokens[first].text == "&" and first < last:
-        first += 1
-    if tokens[first].text == "[":
-        opening = tokens[first].partner + 1
-        return tokens[first + 1].text == "]" and tokens[opening].text == "(" and is_plain_body(tokens, opening)
-    if tokens[first].kind == "number":
-        return True  # a null pointer, which no one calls
-    name = tokens[first].text
-    return any(
-        token.text == name
-        and tokens[at + 1].text == "("
-        and tokens[at + 1].partner is not None
-        and tokens[tokens[at + 1].partner + 1].text == "{"
-        and is_plain_body(tokens, at + 1)
-        for at, token in enumerate(tokens[:-1])
-        if token.kind == "word"
-    )
-
-
 def is_of_library(tokens: list[Token], at: int) -> bool:
     """Whether this is `std::max` or `std::min`, or a part of that."""
     if tokens[at].text == "std":
@@ -109,10 +87,11 @@ def takes_address(tokens: list[Token], at: int) -> bool:
 def is_plain_lambda(tokens: list[Token], first: int, last: int) -> bool:
     if [token.text for token in tokens[first : first + 3]] != ["[", "]", "("]:
         return False
-    body = tokens[first + 2].partner + 1
+    opening = first + 2
+    body = tokens[opening].partner + 1
     return (
-        all(is_number(tokens, *each) for each in arguments_of(tokens, first + 2))
-        and is_plain(tokens, first, last)
+        all(is_number(tokens, *each) for each in arguments_of(tokens, opening))
+        and is_plain_body(tokens, opening)
         and tokens[last].text == "}"
         and not any(
             takes_address(tokens, at) or tokens[at].text == "return" and tokens[at + 1].text == "&"
