@@ -86,7 +86,6 @@ class Words:
                 self.option(word)
             else:
                 self.file(word)
-        self.for_library = self.shared or bool({"-fPIC", "-fpic"} & set(self.compiling))
 
     @staticmethod
     def value(word: str, rest: Iterator[str]) -> str:
