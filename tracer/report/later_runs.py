@@ -4,9 +4,14 @@ from report import checker_answers
 from report import pairs
 from report import result
 from report import runs
+from report import source_lines
 from report import text
 from report import variables
 from report.failure import Failure, reason_of
+
+
+# So many sources are named that are newer than the program.
+MOST_NEWER = 3
 
 
 class Found:
@@ -232,10 +237,28 @@ class Looks:
 
     def hints(self):
         """What would make the report better."""
-        if self.pairs and not variables.Names(self.runner.words[0]).has_any():
+        if not self.pairs:
+            return []
+        if not variables.Names(self.runner.words[0]).has_any():
             return ["the program has no debug information, so lines and variables aren't known: don't strip it, and don't "
                     "link it with -s"]
+        return newer_hint(self.newer())
+
+    def newer(self):
+        """The sources of the report that are newer than the program."""
+        stacks = (stack for pair in self.pairs for stack in
+                  (*(side.stack for side in pair.sides), pair.variable.get("stack", ())))
+        files = {frame.position.file for stack in stacks for frame in stack}
+        return sorted(file for file in files if source_lines.is_newer(file, self.runner.words[0]))
+
+
+def newer_hint(files):
+    if not files:
         return []
+    more = [f"{len(files) - MOST_NEWER} more"] if len(files) > MOST_NEWER else []
+    *others, last = [*files[:MOST_NEWER], *more]
+    named = f"{', '.join(others)} and {last} are" if others else f"{last} is"
+    return [f"{named} newer than the program: the text of lines, and names by it, may be wrong. Compile it again"]
 
 
 def units_of(races):

@@ -135,10 +135,22 @@ def without_spawns(function):
 def lines_of(file):
     """As a compiler counts them: a form feed, say, ends none."""
     try:
-        with open(os.path.join(Root.folder, file), errors="replace", newline="\n") as source:
+        with open(path_of(file), errors="replace", newline="\n") as source:
             return source.read().split("\n")
     except OSError:
         return []
+
+
+def path_of(file):
+    return os.path.join(Root.folder, file)
+
+
+def is_newer(file, program):
+    """Whether a source is newer than the program, so that its lines may be others than those that ran."""
+    try:
+        return os.path.getmtime(path_of(file)) > os.path.getmtime(program)
+    except OSError:
+        return False
 
 
 def without_comments(text):
@@ -166,8 +178,10 @@ class Variables:
         if number < 0:
             return None
         start, size, name = self.rows[number]
-        # A static of a function has a number behind its name with gcc, and the function before it with clang.
-        name = re.sub(r"\.[0-9]+$", "", name).rpartition(".")[2] or name
+        # A static of a function has a number behind its name with gcc, and the function before it with clang; and a
+        # library's variable that the program has a copy of has the library's version.
+        name = re.sub(r"\.[0-9]+$", "", name.partition("@")[0])
+        name = name.rpartition(".")[2] or name
         critical = CRITICAL.fullmatch(self.rows[number][2])
         name = (critical[1] or "without a name") if critical else name
         return Variable(name, address - start, size) if address < start + size else None

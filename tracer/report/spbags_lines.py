@@ -32,6 +32,10 @@ WORD = re.compile(r"(?:(spawn|call|read|write) )?([0-9]+)")
 CONFIRMED = re.compile(r"(?:yes|no ([0-9]+))\n")
 
 
+def warn(message):
+    print(f"spbags-lines: warning: {message}", file=sys.stderr)
+
+
 class Places:
     """The source lines of a trace's places."""
 
@@ -39,17 +43,26 @@ class Places:
         name = trace if trace.endswith(".places") else trace + ".places"
         self.program, self.places = program, checker_answers.places_of(name)
         if os.path.getmtime(program) > os.path.getmtime(name):
-            print(f"spbags-lines: warning: {program} is newer than {name}", file=sys.stderr)
+            warn(f"{program} is newer than {name}")
 
     def positions(self, places):
         """The leading position of each of these places."""
         codes = checker_answers.codes_of(self.places, places)
         found = source_lines.positions_of(self.program, codes.values())
-        return {place: source_lines.leading(found[code]) for place, code in codes.items()}
+        positions = {place: source_lines.leading(found[code]) for place, code in codes.items()}
+        self.warn_of_newer(positions.values())
+        return positions
 
     def pairs(self, races):
         self.places.need({place for _, *accesses in races for _, place in accesses})
-        return pairs.by_lines(self.program, races, self.places)
+        found = pairs.by_lines(self.program, races, self.places)
+        self.warn_of_newer(side.lead() for pair in found for side in pair.sides)
+        return found
+
+    def warn_of_newer(self, positions):
+        for file in sorted({position.file for position in positions}):
+            if source_lines.is_newer(file, self.program):
+                warn(f"{file} is newer than {self.program}")
 
 
 def show(lines):

@@ -75,6 +75,13 @@ class PageTest(EvilTest):
             self.assertIn(f"{html.escape(EVIL)}:{line}", page)
         self.assertIn(html.escape("'<b>'", quote=True).replace("&#x27;", "&#39;"), page)
         self.assertIn("1: the report has races", page)
+        self.assertNotIn("is newer than", page)
+
+    def test_newer_source(self):
+        later = os.path.getmtime("program") + 1
+        os.utime(EVIL, (later, later))
+        self.run_command(SPBAGS_RUN, "--html", "page.html", "--", "./program")
+        self.assertIn(f"{html.escape(EVIL)} is newer than the program", self.read("page.html"))
 
     def test_without_modules(self):
         """A line names the packages before the program runs."""

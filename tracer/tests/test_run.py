@@ -271,6 +271,27 @@ class ReportTest(RunTest):
             self.assertEqual("races 0, pairs of lines 0, 3 spawns, 4 accesses",
                              self.run_command(SPBAGS_RUN, "--", "./extent", "three").out.splitlines()[-1])
 
+    def test_newer_source(self):
+        """A note says that the lines may not be those that ran, whatever shows them; the status is that of the races."""
+        self.write("own.c", SarifTest.TEXT)
+        self.succeeds(SPBAGS_CC, *DETECTOR, "-w", "-o", "own", "own.c")
+        self.run_command(SPBAGS_RUN, "--keep", "run.trace", "--", "./own")
+        self.write("answer", self.spbags("check", "run.trace"))
+        for later, is_newer in ((-1, False), (1, True)):
+            time = os.path.getmtime("own") + later
+            os.utime("own.c", (time, time))
+            with self.subTest(is_newer=is_newer):
+                wanted = [("note", "own.c is newer than the program")] if is_newer else []
+                done = self.run_command(SPBAGS_RUN, "--", "./own")
+                self.assertEqual((1, is_newer), (done.status, "own.c is newer than the program: the text" in done.out))
+                self.assertEqual([text for _, text in wanted], [note.partition(":")[0] for note in
+                                                                self.report_of("./own")[1]["notes"]])
+                [log] = json.loads(self.run_command(SPBAGS_RUN, "--sarif", "--", "./own").out)["runs"]
+                self.assertEqual(wanted, [(note["level"], note["message"]["text"].partition(":")[0]) for note in
+                                          log["invocations"][0]["toolExecutionNotifications"]])
+                said = self.run_command(SPBAGS_LINES, "./own", "run.trace", "answer").errors
+                self.assertEqual("spbags-lines: warning: own.c is newer than ./own\n" if is_newer else "", said)
+
     def test_no_race(self):
         status, report = self.found()
         self.assertEqual((3, 0, []), (status, report["races"], report["pairs"]))
