@@ -5,35 +5,38 @@
 
 The exit status is 0 if no race was found, 1 if one was, 2 if there is no answer, and 3 if no race was found but
 something wasn't seen or modelled: a line says what. The page tracer/RUN.md explains the report."""
+from __future__ import annotations
+
 import argparse
 import os
 import re
 import sys
+from typing import TYPE_CHECKING, BinaryIO, TextIO
 
 from installation import VERSION
-from report import progress
-from report import result
-from report import runs
-from report import source_lines
-from report import text
+from report import result, runs, source_lines, text
 from report.failure import Failure, reason_of
+from report.program_input import disk_file
+from report.progress import Progress
 
 # What is of use only for some answers is imported where they are made: a program without races waits for no more.
+if TYPE_CHECKING:
+    from report.later_runs import Looks
 
 
-def natural(word):
+def natural(word: str) -> int:
     if not word.isdecimal():
         raise argparse.ArgumentTypeError("expected a number, 0 or more")
     return int(word)
 
 
-def status(word):
+def status(word: str) -> int:
     if not word.isdecimal() or int(word) > 255:
         raise argparse.ArgumentTypeError("expected a status from 0 to 255")
     return int(word)
 
 
-def seconds(word):
+def seconds(word: str) -> float:
     try:
         number = float(word)
     except ValueError:
@@ -43,11 +46,11 @@ def seconds(word):
     return number
 
 
-def names(word):
+def names(word: str) -> list[str]:
     return [name for name in word.split(",") if name]
 
 
-def options():
+def options() -> argparse.ArgumentParser:
     parser = argparse.ArgumentParser(
         prog="spbags-run", description=__doc__, formatter_class=argparse.RawDescriptionHelpFormatter,
         usage="spbags-run [options] -- PROGRAM [WORD ..]")
@@ -96,18 +99,18 @@ def options():
 class Session:
     """The runs of one command."""
 
-    def __init__(self, chosen):
-        self.chosen, self.run, self.looked, self.notes, self.incomplete, self.unseen = chosen, None, None, [], [], []
-        self.progress = progress.Progress()
-        settings = {"SPBAGS_REPEATS": "1"} if chosen.repeats else {}
-        # A trace that is kept has streams only if they are asked for, since `spbags` doesn't know them from the rest.
-        settings |= {"SPBAGS_STREAMS": "1" if chosen.streams or not chosen.keep else "0"}
+    def __init__(self, chosen: argparse.Namespace) -> None:
+        self.chosen, self.progress = chosen, Progress()
         self.unit = os.environ.get("SPBAGS_UNIT") or "4"
-        self.runner = runs.Runner(chosen.command, ["--shards", chosen.shards], {**settings, "SPBAGS_UNIT": self.unit},
-                                  sys.stderr if (chosen.json or chosen.sarif) and not chosen.output else None, chosen.timeout,
+        # A trace that is kept has streams only if they are asked for, since `spbags` doesn't know them from the rest.
+        settings = {"SPBAGS_UNIT": self.unit, "SPBAGS_STREAMS": "1" if chosen.streams or not chosen.keep else "0",
+                    **({"SPBAGS_REPEATS": "1"} if chosen.repeats else {})}
+        output = sys.stderr if (chosen.json or chosen.sarif) and not chosen.output else None
+        self.runner = runs.Runner(chosen.command, ["--shards", chosen.shards], settings, output, chosen.timeout,
                                   self.tell_stuck, self.progress)
+        self.looked: Looks | None = None
 
-    def tell_stuck(self, what, codes):
+    def tell_stuck(self, what: str, codes: list[int]) -> None:
         """The program may wait for ever, so this line doesn't wait for the report."""
         try:
             rows = text.stack_rows(self.runner.words[0], codes)
@@ -116,96 +119,90 @@ class Session:
         self.progress.erase()
         print("\n".join([*text.told(what, width()), *rows]), file=sys.stderr, flush=True)
 
-    def traced(self):
+    def traced(self) -> tuple[runs.Run, BinaryIO | None]:
         """The first run, which alone prints, and the file of its places: it keeps them beside a trace that is kept, and
         where there is no other run."""
         keep = self.chosen.keep and os.path.abspath(self.chosen.keep)
         if keep:
             run = self.runner.found(keep, False, {})
             return run, open(keep + ".places", "rb")
-        places = runs.disk_file() if self.chosen.one_run else None
+        places = disk_file() if self.chosen.one_run else None
         return self.runner.found(None, False, {"SPBAGS_PLACES": places.fileno()} if places else {}), places
 
-    def find(self):
-        """Finds the races, and the pairs of source positions. All that the first run found is reported, whatever comes of
+    def find(self) -> result.Report:
+        """The races, and the pairs of source positions. All that the first run found is reported, whatever comes of
         later ones, unless one with the same course shows that it is none."""
         with runs.memory_file() as waited:
             files = {"SPBAGS_WAITED": waited.fileno()}
             self.runner.files = files
-            self.run, places = self.traced()
+            run, places = self.traced()
             self.runner.files = {}
-            if self.run.has_races():
-                self.look(places)
-            self.tell_ending()
+            if run.has_races():
+                looks = self.looks()
+                looks.look(looks.found(run, places))
+            notes = self.notes_of(run)
             self.runner.files = files
-            if self.run.waits and not self.looks().look_behind(self.run):
-                self.incomplete += self.run.waits
+            waits = [] if not run.waits or self.looks().look_behind(run) else run.waits
+        return self.report(run, notes, run.incomplete + waits)
 
-    def looks(self):
+    def looks(self) -> Looks:
         """What later runs say."""
         if not self.looked:
-            from report import later_runs
-            self.looked = later_runs.Looks(self.runner, self.chosen, int(self.unit))
+            from report.later_runs import Looks
+            self.looked = Looks(self.runner, self.chosen, int(self.unit))
         return self.looked
 
-    def look(self, places):
-        looks = self.looks()
-        looks.look(looks.found(self.run, places))
-
-    def is_silenced(self, function):
+    def is_silenced(self, function: str) -> bool:
         """Whether --unseen-ok names it; the words of a C++ function needn't be there."""
         return any(re.fullmatch(source_lines.pattern(name), shape) for name in self.chosen.unseen_ok
                    for shape in (function, function.partition("(")[0]))
 
-    def tell_ending(self):
-        run, has_races = self.run, self.looked is not None and self.looked.races > 0
+    def notes_of(self, run: runs.Run) -> list[str]:
+        """What is to be said of the first run's end; without a race only a whole run has an answer."""
+        has_races = self.looked is not None and self.looked.races > 0
         notes = list(run.seeming) if has_races else []
-        self.incomplete = run.incomplete
-        self.unseen = [unseen for unseen in run.unseen if not self.is_silenced(unseen.function)]
+        if not run.is_whole() and not has_races:
+            raise Failure(f"{run.ending()}: there was no race up to that point")
         if not run.is_whole():
-            if not has_races:
-                raise Failure(f"{run.ending()}: there was no race up to that point")
             notes.append(f"{run.ending()}: this is the run up to that point")
         elif run.status != 0:
             notes.append(f"the program ended with status {run.status}")
-        self.notes = notes
+        return notes
 
-    def ended(self):
-        status = self.run.status
-        return {"status": status if status >= 0 else None, "signal": -status if status < 0 else None,
-                "complete": self.run.is_whole()}
-
-    def report(self):
+    def report(self, run: runs.Run, notes: list[str], incomplete: list[str]) -> result.Report:
         """What was found, without what is left out."""
         chosen, looked = self.chosen, self.looked
         found, races, without_stacks = (looked.pairs, looked.races, looked.without_stacks) if looked else ([], 0, 0)
-        ignored = self.suppressions() if found or chosen.suppress else None
+        ignored = None
+        if found or chosen.suppress:
+            from report.suppressions import Suppressions
+            ignored = Suppressions(chosen.suppress)
         suppressed = [pair for pair in found if ignored and ignored.match(pair)]
         rest = [pair for pair in found if pair not in suppressed]
         guarded = [pair for pair in rest if chosen.data_races and pair.is_guarded()]
         rest = [pair for pair in rest if pair not in guarded]
         own = sum(pair.guard == result.THREAD_LOCAL for pair in guarded)
         if own > 0:
-            self.notes.append(f"{text.many(own, 'pair')} of thread-local variables left out: a data race if one child "
-                              "reaches another thread's by a pointer")
-        spawns, accesses = map(int, self.run.words("ran")) if self.run.words("ran") else (None, None)
-        return result.Report(chosen.command, int(self.unit), self.ended(), spawns, accesses, races, rest[:chosen.most],
+            notes.append(f"{text.many(own, 'pair')} of thread-local variables left out: a data race if one child "
+                         "reaches another thread's by a pointer")
+        spawns, accesses = [int(word) for word in run.words("ran")] or [None, None]
+        ended = result.Ended(run.status if run.status >= 0 else None, -run.status if run.status < 0 else None, run.is_whole())
+        return result.Report(chosen.command, int(self.unit), ended, spawns, accesses, races, rest[:chosen.most],
                              result.count(rest[chosen.most:]), result.count(suppressed), result.count(guarded),
-                             without_stacks, self.notes + (looked.notes + looked.hints() if looked else []),
-                             self.incomplete, self.unseen, ignored.told() if ignored else [])
-
-    def suppressions(self):
-        from report import pairs
-        return pairs.Suppressions(self.chosen.suppress)
+                             without_stacks, notes + (looked.notes + looked.hints() if looked else []), incomplete,
+                             [unseen for unseen in run.unseen if not self.is_silenced(unseen.function)],
+                             ignored.told() if ignored else [])
 
 
-def has_colours(chosen, output):
-    return chosen.color == "always" or (chosen.color == "auto" and output.isatty() and not os.environ.get("NO_COLOR"))
+def has_colours(chosen: argparse.Namespace, output: TextIO) -> bool:
+    is_asked = chosen.color == "auto" and output.isatty() and not os.environ.get("NO_COLOR")
+    return is_asked or chosen.color == "always"
 
 
-def text_of(found, chosen, output):
+def text_of(found: result.Report, chosen: argparse.Namespace, output: TextIO) -> str:
     if chosen.json or chosen.sarif:
         import json
+
         from report import sarif
         return json.dumps(sarif.as_object(found, VERSION) if chosen.sarif else result.as_object(found), indent=1)
     if chosen.gen_suppressions:
@@ -213,26 +210,26 @@ def text_of(found, chosen, output):
     return "\n".join(text.Text(found, has_colours(chosen, output), width()).lines())
 
 
-def width():
+def width() -> int:
     """That of what shows the text."""
     import shutil
     return shutil.get_terminal_size((120, 24)).columns
 
 
-def show(found, chosen):
+def show(found: result.Report, chosen: argparse.Namespace) -> None:
     with open(chosen.output or sys.stdout.fileno(), "w", encoding="utf-8", errors="surrogateescape",
               closefd=bool(chosen.output)) as output:
         print(text_of(found, chosen, output), file=output)
 
 
-def status_of(found, chosen):
+def status_of(found: result.Report, chosen: argparse.Namespace) -> int:
     if found.pairs or found.not_shown.pairs:
-        return chosen.exitcode
+        return int(chosen.exitcode)
     return 3 if (found.incomplete or found.unseen) and not chosen.incomplete_ok else 0
 
 
-def page_of(found, chosen):
-    """The report as HTML, or why there can be none."""
+def page_of(found: result.Report | None, chosen: argparse.Namespace) -> str:
+    """The report as HTML; without a report, only whether there can be any."""
     try:
         # Nothing else needs the folders of the system's packages.
         import site
@@ -241,10 +238,10 @@ def page_of(found, chosen):
     except ImportError as error:
         raise Failure(f"--html needs the module {error.name} of Python: apt-get install python3-jinja2 "
                       "python3-pygments") from error
-    return html_page.page_of(found, status_of(found, chosen)) if found else None
+    return html_page.page_of(found, status_of(found, chosen)) if found else ""
 
 
-def answer(chosen):
+def answer(chosen: argparse.Namespace) -> int:
     """Shows the report, and gives the status."""
     # What can't be written, or made, is told before the program runs.
     for name in filter(None, (chosen.output, chosen.html)):
@@ -253,8 +250,7 @@ def answer(chosen):
         page_of(None, chosen)
     session = Session(chosen)
     try:
-        session.find()
-        found = session.report()
+        found = session.find()
     finally:
         session.progress.end()
     show(found, chosen)
@@ -264,7 +260,7 @@ def answer(chosen):
     return status_of(found, chosen)
 
 
-def main():
+def main() -> int:
     chosen = options().parse_args()
     source_lines.Root.folder = chosen.source_root
     try:

@@ -242,7 +242,7 @@ class ReportTest(RunTest):
         said = self.spbags("explain", "run.trace", str(location)).splitlines()
         places = [int(said[number].split()[at]) for number, at in ((2, 2), (3, 2), (4, 1))]
         self.assertEqual("first spawn", said[2].rpartition(" ")[0][:11])
-        codes = checker_answers.codes_of(checker_answers.places_of("run.trace.places"), places)
+        codes = checker_answers.places_of("run.trace.places").codes(places)
         found = source_lines.positions_of(program, codes.values())
         positions = [source_lines.leading(found[codes[place]]) for place in places]
         return [position.line if position.function == function else None for position in positions]
@@ -297,7 +297,7 @@ class ReportTest(RunTest):
         self.assertEqual((3, 0, []), (status, report["races"], report["pairs"]))
         modules = self.run_command(sys.executable, "-X", "importtime", SPBAGS_RUN, "--", "./run").errors
         for name, is_read in (("runs", True), ("pairs", False), ("variables", False)):
-            self.assertEqual(is_read, re.search(rf"(?m)\| +{name}$", modules) is not None, name)
+            self.assertEqual(is_read, re.search(rf"(?m)\| +report\.{name}$", modules) is not None, name)
 
 
 def text_object(required=("text",)):

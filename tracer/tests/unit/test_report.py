@@ -1,0 +1,160 @@
+#!/usr/bin/env python3
+"""Modules of the report, each by itself: no program is traced. What has to come out is written here by hand."""
+import os
+import sys
+import unittest.mock
+
+sys.dont_write_bytecode = True
+sys.path.insert(0, os.path.dirname(os.path.dirname(os.path.realpath(__file__))))
+import cases
+from cases import TracerTest
+from report import checker_answers, expressions, function_names, later_runs, source_lines, stack_rows, text
+from report.pairs import Variable
+from report.source_lines import Position
+from report.stack_rows import Frame
+from report.variables import Names, name_of_symbol
+
+# With -g, and without a hook: `table` has elements of 104 bytes, whose `inner` begin at byte 4 and are of 24 bytes.
+TYPES = """#include <unistd.h>
+struct inner { int rows[2][3]; };
+struct outer { char kind; struct inner inner[4]; unsigned low : 3, high : 5; } table[5];
+int main(void) {
+    static int calls;
+    return ++calls + table[1].low + optind;
+}
+"""
+
+
+class RowsTest(TracerTest):
+    def test_innermost(self):
+        """Of a stack in the library's headers the function that does the access has a row, and so has the outermost."""
+        at = [Position(*words) for words in (("/usr/include/c++/store.h", 3, "store"), ("/usr/include/c++/pass.h", 5, "pass"),
+                                             ("/usr/include/c++/sort.h", 7, "sort"), ("own.cpp", 9, "main"))]
+        shown = stack_rows.rows([Frame(role, position, 1) for role, position in zip(("header", *["call"] * 3), at)])
+        self.assertEqual([("store.h:3", "store", ""), ("sort.h:7", "sort", "and 1 more"), ("own.cpp:9", "main", "")],
+                         [(row.place, row.function, row.behind) for row in shown])
+        positions = {code + 1: [one] for code, one in enumerate(at)}
+        with unittest.mock.patch("report.source_lines.positions_of", lambda *_: positions):
+            self.assertEqual(["/usr/include/c++/store.h:3", "own.cpp:9"],
+                             [row.split()[0] for row in text.stack_rows("program", list(range(len(at))))])
+
+    def test_cycles(self):
+        """Rows that come again and again in turn are shown once, with their number."""
+        lines = [*[1, 2, 3, 2, 3, 2, 3], *[4, 4, 5, 4, 4, 5], *[6, 6], 7]
+        shown = stack_rows.rows([Frame("call", Position("own.c", line, "f"), 1) for line in lines])
+        self.assertEqual([("own.c:1", ""), ("own.c:2", ""), ("own.c:3", "these 2 rows 3 times"), ("own.c:4", "2 times"),
+                          ("own.c:5", "these 2 rows 2 times"), ("own.c:6", "2 times"), ("own.c:7", "")],
+                         [(row.place, row.behind) for row in shown])
+
+    def test_long(self):
+        """The first rows and the last ones are shown; one that would be left out alone is."""
+        for count, wanted in ((41, None), (42, "2 more")):
+            rows = stack_rows.rows([Frame("call", Position("own.c", line, "f"), 1) for line in range(1, count + 1)])
+            self.assertEqual((41, wanted), (len(rows), rows[20].place if rows[20].label == "  .." else None))
+
+
+class WordsTest(TracerTest):
+    def test_functions(self):
+        """A lambda is named by its line, and long arguments of templates are folded."""
+        self.write("lambdas.cpp", "// don't [\nint main() {\n    int a[2];\n    auto f = [&](int i) {\n        a[i] = 1;\n"
+                              "        auto g = [=]() mutable -> int {\n            return a[i];\n        };\n"
+                              "        return g();\n    };\n    return f(1);\n}\n")
+        gcc, clang = "main::{lambda(std::pair<int, long> const&)#1}::operator()(int) const", "main::$_0::operator()(int) const"
+        deep = "auto main::{lambda(auto:1&)#1}::operator()<int>(int&) const"
+        for line, function, wanted in (
+                (5, gcc, "lambda at lambdas.cpp:4"), (5, clang, "lambda at lambdas.cpp:4"), (7, gcc, "lambda at lambdas.cpp:6"),
+                (9, deep, "lambda at lambdas.cpp:4"), (11, gcc, "main"),
+                (5, "Table<std::pair<int, int>, double>::add(std::vector<int> const&)",
+                 "Table<..>::add(std::vector<int> const&)"),
+                (5, "std::operator<< <std::char_traits<char> >(char)", "std::operator<< <..>(char)"),
+                (5, "bool operator<(Key<int> const&)", "bool operator<(Key<int> const&)")):
+            with self.subTest(function, line=line):
+                self.assertEqual(wanted, function_names.function_of(Position("lambdas.cpp", line, function)))
+        self.assertEqual("lambda in main", function_names.function_of(Position("none.cpp", 5, gcc)))
+
+    def test_parts(self):
+        """All members are named; of many elements one, and the number of the others."""
+        for parts, number, wanted in (([f"s.{name}" for name in "abcde"], 5, "s.a, s.b, s.c, s.d and s.e"),
+                                      (["s[0]", "s[7]"], 2, "s[0] and s[7]"),
+                                      ([f"s[{at}]" for at in range(5)], 5, "s[0] and 4 more elements of s"),
+                                      ([f"s[{at}].x" for at in range(20)], 60, "s[0].x and 59 more parts of s"),
+                                      (["s._M_a.b", "s._M_c"], 2, "s")):
+            with self.subTest(wanted):
+                self.assertEqual(wanted, text.parts_named(Variable("global", name="s", parts=parts, parts_count=number)))
+
+    def test_told(self):
+        """What can't wait for the report is as wide."""
+        words = "for 30 seconds the program has touched no new memory and started no task. It goes on, since it may"
+        self.assertEqual(["spbags-run: for 30 seconds the program has touched no new memory",
+                          "    and started no task. It goes on, since it may"], text.told(words, 67))
+
+    def test_updates(self):
+        """A line that makes of a variable what it was and more, whatever else stands there."""
+        for line, wanted in (("sum += x;", True), ("sum = x;", False), ("++n, sum -= x;", True), ("n++, out = x;", False),
+                             ("best = std::max(best, x);", True), ("best = x > best ? x : best;", True),
+                             ("if (x > best) best = x;", True), ("*out++ = *in++;", False), ("a[n++] = x;", False),
+                             ("int x = cilk_spawn fib(n - 1);", False), ("auto up = [n] { n[3]++; };", True),
+                             ("int slot = next++;", False), ("return sum += x;", False), ("f(n++);", False),
+                             ("for (;;) sum += x;", True), ("fill(a->text, n);", False), ("return x + y; // x++", False)):
+            with self.subTest(line):
+                self.assertEqual(wanted, expressions.updates(line))
+
+    def test_newer(self):
+        for files, wanted in (([], None), (["a.c"], "a.c is newer"), (["a.c", "b.c"], "a.c and b.c are newer"),
+                              (["a.c", "b.c", "c.c", "d.c", "e.c"], "a.c, b.c, c.c and 2 more are newer")):
+            self.assertEqual([wanted] if wanted else [],
+                             [line.partition(" than the program")[0] for line in later_runs.newer_hint(files)])
+
+
+class NamesTest(TracerTest):
+    def test_symbols(self):
+        for symbol, wanted in (("calls.0", "calls"), ("main.calls", "calls"), ("one::two", "one::two"),
+                               ("optind@GLIBC_2.2.5", "optind"), (".gomp_critical_user_name", "name"),
+                               (".gomp_critical_user_name.var", "name"), (".gomp_critical_user_.var", "without a name")):
+            self.assertEqual(wanted, name_of_symbol(symbol))
+
+    def test_globals(self):
+        """The parts of a global, by DWARF of each version; two bit-fields in one byte have no name of their own. A
+        variable of the library that the program has a copy of has the library's name."""
+        self.write("types.c", TYPES)
+        for version in ("4", "5"):
+            self.succeeds("gcc", "-g", "-gdwarf-" + version, "-no-pie", "-o", "types", "types.c")
+            names = Names("types")
+            starts = {names.symbol(symbol.start).name: symbol.start for symbol in names.elf.variables.all}
+            table = starts["table"]
+            with self.subTest(version):
+                self.assertLessEqual({"calls", "optind"}, set(starts))
+                for offset, wanted, rest in ((256, "table[2].inner[1].rows[1][2]", None), (104, "table[1].kind", None),
+                                             (204, "table[1]", (100, 104))):
+                    found = names.at(table, offset)
+                    self.assertEqual((wanted, rest, 520), (found.expression, found.rest, found.size))
+                rows = [f"table[0].inner[0].rows[{row}][{column}]" for row in range(2) for column in range(3)]
+                self.assertEqual((rows, 6), names.parts(names.at(table, 0).entry, "table", [(4, 12), (12, 28)], 20))
+                self.assertEqual((rows[:2], 20 * 6), names.parts(names.at(table, 0).entry, "table", [(4, 100), (108, 204),
+                                 (212, 308), (316, 412), (420, 516)], 2))
+
+    def test_bit_fields(self):
+        """DWARF 4 counts bits from the end of what holds them, and 5 from the beginning of the struct."""
+        self.write("bits.c", "struct { unsigned short first : 9, second : 7; unsigned last; } bits;\n"
+                             "int main(void) { return bits.last; }\n")
+        for version in ("4", "5"):
+            self.succeeds("gcc", "-g", "-gdwarf-" + version, "-no-pie", "-o", "bits", "bits.c")
+            names = Names("bits")
+            [start] = [symbol.start for symbol in names.elf.variables.all if symbol.name == "bits"]
+            self.assertEqual(["bits.first", "bits", "bits.last"], [names.at(start, at).expression for at in (0, 1, 4)])
+
+
+class AnswersTest(TracerTest):
+    def test_locations(self):
+        """A byte of a unit has a location of its own: its unit is that of the heap or, if it is odd, of the stack."""
+        byte = checker_answers.FIRST_BYTE + 8 * 14 + 3
+        self.assertEqual((14, 14, 7 * 4, 7 * 4 + 3), (checker_answers.unit_of(14), checker_answers.unit_of(byte),
+                                                      checker_answers.address_of(14, 4), checker_answers.address_of(byte, 4)))
+
+    def test_packed(self):
+        """So many new numbers, and then so many that repeat the last ones."""
+        self.assertEqual([7, 8, 9, 8, 9, 8, 6], checker_answers.unpacked([3, 7, 8, 9, 2, 3, 1, 6]))
+
+
+if __name__ == "__main__":
+    cases.main()
