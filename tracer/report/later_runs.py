@@ -1,7 +1,6 @@
 """What later runs of a program say of the races that its first run has: their stacks, and which of them are none. It is
 of use only where there are races."""
 from argparse import Namespace
-from collections.abc import Iterable
 from typing import BinaryIO
 
 from report import result, source_lines, text
@@ -10,7 +9,7 @@ from report.failure import Failure, reason_of
 from report.pairs import Pair, in_order, merged
 from report.program import Program
 from report.program_input import disk_file
-from report.run_notes import Noted, Notes, is_stream
+from report.run_notes import Notes, is_stream
 from report.runs import Run, Runner, file_of
 from report.sites import by_sites, common_guard
 
@@ -62,35 +61,6 @@ class Found:
         """Whether this run did the same as that one, whose units of these locations it has divided."""
         units, course = {unit for unit in units_of(self.races) if unit < FIRST_FRESH}, self.run.words("course")
         return bool(course) and course == first.run.words("course") and units - divided == units_of(first.races) - divided
-
-
-class Known:
-    """What is known of a program's races: the notes of a run that looked, or None, and races with the places of the run
-    that had them, or with None."""
-
-    def __init__(self, name: str, unit: int, notes: Notes | None, *others: tuple[list[Race], Places | None]) -> None:
-        self.notes = notes
-        self.groups = [by_sites(races, places) for races, places in others]
-        codes = [code for groups in self.groups for group in groups for code in group.codes()]
-        self.program = Program(name, [*(notes.codes() if notes else ()), *codes], unit, notes.thread if notes else 0)
-
-    def noted(self) -> list[Pair]:
-        return self.whole(self.notes.pairs if self.notes else [])
-
-    def ordered(self) -> list[Pair]:
-        """Those of the order of streams."""
-        return self.whole(self.notes.ordered if self.notes else [])
-
-    def whole(self, noted: list[Noted]) -> list[Pair]:
-        # Those of a variable whose stacks are its own come first.
-        return self.as_pairs(sorted((pair for one in noted for pair in self.program.pairs(one)), key=lambda pair: pair.borrowed))
-
-    def others(self, number: int) -> list[Pair]:
-        """Those of the races that were given with such a number, without stacks."""
-        return self.as_pairs(pair for group in self.groups[number] for pair in self.program.pairs_without_stacks(group))
-
-    def as_pairs(self, found: Iterable[Pair]) -> list[Pair]:
-        return list(map(self.program.complete, in_order(merged(found))))
 
 
 class Looks:
@@ -229,17 +199,18 @@ class Looks:
         lost = [race for race in rest if race.location not in had]
         places = start.places if start else found.places
         self.runner.progress.begin("looking up source lines")
-        known = Known(self.runner.words[0], self.unit, notes, (again, places), (lost, found.places), (beside, places),
-                      (ordered, places))
-        self.has_dwarf = known.program.names.has_any()
+        known = [by_sites(*group) for group in ((again, places), (lost, found.places), (beside, places), (ordered, places))]
+        program = Program(self.runner.words[0], self.unit, notes, known)
+        self.has_dwarf = program.names.has_any()
         earlier = {pair.key() for pair in self.pairs}
-        new = merged([*known.noted(), *known.others(0), *known.others(1)])
+        noted, of_order = (notes.pairs, notes.ordered) if notes else ([], [])
+        new = merged([*program.of_notes(noted), *program.of_sites(known[0]), *program.of_sites(known[1])])
         keys = earlier | {pair.key() for pair in new}
-        more = [pair for pair in known.others(2) if pair.key() not in keys]
+        more = [pair for pair in program.of_sites(known[2]) if pair.key() not in keys]
         new = [pair for pair in new if pair.key() not in earlier] + more
         for pair in new:
             pair.neighbours &= found.is_doubtful
-        self.tell_order(known.ordered() or known.others(3))
+        self.tell_order(program.of_notes(of_order) or program.of_sites(known[3]))
         self.pairs = in_order(self.pairs + new)
         self.races += sum(pair.races for pair in new) + (notes.left if notes else 0)
         count = result.count(more).races

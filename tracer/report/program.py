@@ -5,9 +5,9 @@ from report import advice, checker_answers, source_lines
 from report.checker_answers import Guard
 from report.dwarf_types import Run
 from report.heap_types import HeapTypes, Line, Made
-from report.pairs import MissingSync, Pair, Siblings, Side, Variable
+from report.pairs import MissingSync, Pair, Siblings, Side, Variable, in_order, merged
 from report.result import THREAD_LOCAL
-from report.run_notes import STREAM_GUARD, Block, Noted, Stretch, is_stream
+from report.run_notes import STREAM_GUARD, Block, Noted, Notes, Stretch, is_stream
 from report.sites import Sites, common_guard
 from report.source_lines import UNKNOWN, Position
 from report.stack_rows import Frame
@@ -39,13 +39,14 @@ class Pieces:
 
 
 class Program:
-    """A program of which these code addresses are asked for."""
+    """A program whose races are those that a run noted, or None, and those of these sites."""
 
-    def __init__(self, name: str, codes: Iterable[int], unit: int, thread: int = 0) -> None:
-        self.positions = source_lines.positions_of(name, codes)
+    def __init__(self, name: str, unit: int, notes: Notes | None, groups: Iterable[list[Sites]]) -> None:
+        codes = [code for group in groups for sites in group for code in sites.codes()]
+        self.positions = source_lines.positions_of(name, [*codes, *(notes.codes() if notes else ())])
         self.positions[0] = [UNKNOWN]
         # Where the memory begins that a thread has of its own.
-        self.names, self.unit, self.thread = Names(name), unit, thread
+        self.names, self.unit, self.thread = Names(name), unit, notes.thread if notes else 0
         self.heap_types = HeapTypes(self.names)
 
     # ---- Stacks ----
@@ -82,6 +83,16 @@ class Program:
         return frames
 
     # ---- Pairs ----
+
+    def of_notes(self, noted: Iterable[Noted]) -> list[Pair]:
+        # Those of a variable whose stacks are its own come first.
+        return self.whole(sorted((pair for one in noted for pair in self.pairs(one)), key=lambda pair: pair.borrowed))
+
+    def of_sites(self, groups: Iterable[Sites]) -> list[Pair]:
+        return self.whole(pair for group in groups for pair in self.pairs_without_stacks(group))
+
+    def whole(self, pairs: Iterable[Pair]) -> list[Pair]:
+        return list(map(self.complete, in_order(merged(pairs))))
 
     def pairs(self, noted: Noted) -> Iterator[Pair]:
         """One pair for each variable, with the stacks of the first race."""

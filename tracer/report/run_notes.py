@@ -17,7 +17,7 @@ class Access(NamedTuple):
     """The kind of an access, and its stack in words: code addresses, with `spawn` behind one that spawned."""
     kind: str
     atomic: bool
-    stack: tuple[str, ...]
+    stack: list[str]
 
 
 class Stretch(NamedTuple):
@@ -53,7 +53,7 @@ class Block(NamedTuple):
     """A block of the heap, and the stack of its allocation."""
     address: int
     size: int
-    stack: tuple[str, ...]
+    stack: list[str]
 
 
 @dataclass
@@ -79,6 +79,26 @@ class Noted:
     # Of blocks of the heap the bytes that race.
     held: list[Run] = field(default_factory=list)
 
+    def take(self, words: list[str]) -> None:
+        match words:
+            case "first" | "second", kind, atomic, *stack:
+                self.sides.append(Access(kind, atomic == "1", stack))
+                self.children.append(None)
+            case "child", of, code, first, last:
+                self.children[-1] = Child(of, int(code, 16), int(first), int(last))
+            case "waits" | "ends" as name, code:
+                self.waits = Wait(int(code, 16), name == "ends")
+            case ("reducer",):
+                self.reducer = True
+            case "guard", number, *named:
+                self.guard = int(number, 16), " ".join(named)
+            case "before", number, *named:
+                self.before = int(number, 16), " ".join(named)
+            case "block", address, size, *stack:
+                self.block = Block(int(address, 16), int(size), stack)
+            case _:
+                raise Failure(f"the second run noted {words[0]}, which means nothing")
+
     def codes(self) -> list[int]:
         """All code addresses in it."""
         stacks = [*(side.stack for side in self.sides), *([self.block.stack] if self.block else [])]
@@ -101,63 +121,31 @@ class Notes:
         self.astray: tuple[int, str] | None = None
         self.left = self.thread = 0
         for line in lines[:-1]:
-            name, *words = line.split(" ")
-            getattr(self, "take_" + name)(*words)
+            self.take(line.split(" "))
         if not lines or lines[-1] != "end":
             raise Failure("the second run ended before it had written its notes")
 
-    def take_thread(self, address: str) -> None:
-        self.thread = int(address, 16)
-
-    def take_pair(self, races: str, location: str, address: str, meeting: str, narrow: str) -> None:
-        self.pairs.append(Noted(int(races), int(location), int(address, 16), int(meeting), narrow == "1"))
-
-    def take_first(self, kind: str, atomic: str, *stack: str) -> None:
-        self.pairs[-1].sides.append(Access(kind, atomic == "1", stack))
-        self.pairs[-1].children.append(None)
-
-    take_second = take_first
-
-    def take_child(self, of: str, code: str, first: str, last: str) -> None:
-        self.pairs[-1].children[-1] = Child(of, int(code, 16), int(first), int(last))
-
-    def take_at(self, pair: str, location: str, units: str, address: str, code: str, offset: str, data_code: str,
-                data_offset: str, *, borrowed: bool = False) -> None:
-        self.pairs[int(pair) - 1].stretches.append(Stretch(int(location), int(units), int(address, 16), int(code, 16),
-                                                      int(offset), int(data_code, 16), int(data_offset), borrowed))
-
-    def take_other(self, *words: str) -> None:
-        self.take_at(*words, borrowed=True)
-
-    def take_waits(self, code: str) -> None:
-        self.pairs[-1].waits = Wait(int(code, 16), False)
-
-    def take_ends(self, code: str) -> None:
-        self.pairs[-1].waits = Wait(int(code, 16), True)
-
-    def take_reducer(self) -> None:
-        self.pairs[-1].reducer = True
-
-    def take_guard(self, number: str, *words: str) -> None:
-        self.pairs[-1].guard = int(number, 16), " ".join(words)
-
-    def take_before(self, number: str, *words: str) -> None:
-        self.pairs[-1].before = int(number, 16), " ".join(words)
-
-    def take_block(self, address: str, size: str, *stack: str) -> None:
-        self.pairs[-1].block = Block(int(address, 16), int(size), stack)
-
-    def take_held(self, pair: str, first: str, size: str) -> None:
-        self.pairs[int(pair) - 1].held.append((int(first), int(first) + int(size)))
-
-    def take_astray(self, place: str, *found: str) -> None:
-        self.astray = int(place), " ".join(found)
-
-    def take_narrow(self, location: str) -> None:
-        self.narrow.add(int(location))
-
-    def take_left(self, races: str) -> None:
-        self.left = int(races)
+    def take(self, words: list[str]) -> None:
+        """What is of no pair, or of one that comes by its number; or begins one, which the other words are of."""
+        match words:
+            case "pair", races, location, address, meeting, narrow:
+                self.pairs.append(Noted(int(races), int(location), int(address, 16), int(meeting), narrow == "1"))
+            case "at" | "other" as name, pair, location, units, address, code, offset, data_code, data_offset:
+                self.pairs[int(pair) - 1].stretches.append(Stretch(
+                    int(location), int(units), int(address, 16), int(code, 16), int(offset), int(data_code, 16),
+                    int(data_offset), name == "other"))
+            case "held", pair, first, size:
+                self.pairs[int(pair) - 1].held.append((int(first), int(first) + int(size)))
+            case "astray", place, *found:
+                self.astray = int(place), " ".join(found)
+            case "narrow", location:
+                self.narrow.add(int(location))
+            case "left", races:
+                self.left = int(races)
+            case "thread", address:
+                self.thread = int(address, 16)
+            case _:
+                self.pairs[-1].take(words)
 
     def has(self, race: Race) -> bool:
         """Whether it was noted: both accesses come before the place where the run went astray."""

@@ -9,7 +9,9 @@ sys.path.insert(0, os.path.dirname(os.path.dirname(os.path.realpath(__file__))))
 import cases
 from cases import TracerTest
 from report import checker_answers, expressions, function_names, later_runs, source_lines, stack_rows, text
+from report.failure import Failure
 from report.pairs import Variable
+from report.run_notes import Notes
 from report.source_lines import Position
 from report.stack_rows import Frame
 from report.variables import Names, name_of_symbol
@@ -142,6 +144,30 @@ class NamesTest(TracerTest):
             names = Names("bits")
             [start] = [symbol.start for symbol in names.elf.variables.all if symbol.name == "bits"]
             self.assertEqual(["bits.first", "bits", "bits.last"], [names.at(start, at).expression for at in (0, 1, 4)])
+
+
+class NotesTest(TracerTest):
+    LINES = ["thread 7f00", "pair 3 14 1c 1 0", "first write 1 4011 4022 spawn", "child loop 4033 0 4", "second read 0 4044",
+             "child loop 4033 5 9", "waits 4055", "guard 9 the lock ", "block 1000 24 4066", "at 1 14 2 1c 0 0 4088 -8",
+             "other 1 18 1 24 4099 -16 0 0", "held 1 4 8", "narrow 14", "left 2", "astray 7 a read of location 5"]
+
+    def test_pair(self):
+        """What hooks/look.c writes: addresses as hexadecimal numbers, `spawn` behind what spawned."""
+        notes = Notes([*self.LINES, "end"])
+        [noted] = notes.pairs
+        self.assertEqual((3, 14, 0x1c, 1, False), (noted.races, noted.location, noted.address, noted.meeting, noted.is_narrow))
+        self.assertEqual([("write", True, ["4011", "4022", "spawn"]), ("read", False, ["4044"])], noted.sides)
+        self.assertEqual([("loop", 0x4033, 0, 4), ("loop", 0x4033, 5, 9)], noted.children)
+        self.assertEqual(((0x4055, False), (9, "the lock "), (0x1000, 24, ["4066"]), [(4, 12)]),
+                         (noted.waits, noted.guard, noted.block, noted.held))
+        self.assertEqual([(14, 2, 0x1c, 0, 0, 0x4088, -8, False), (18, 1, 0x24, 0x4099, -16, 0, 0, True)], noted.stretches)
+        self.assertEqual((0x7f00, {14}, 2, (7, "a read of location 5")),
+                         (notes.thread, notes.narrow, notes.left, notes.astray))
+        self.assertEqual({0x4011, 0x4022, 0x4044, 0x4033, 0x4055, 0x4066, 0x4088, 0x4099}, set(notes.codes()))
+
+    def test_faults(self):
+        for lines in ([], self.LINES, [*self.LINES, "unknown 1", "end"]):
+            self.assertRaises(Failure, Notes, lines)
 
 
 class AnswersTest(TracerTest):
