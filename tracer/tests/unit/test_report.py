@@ -9,9 +9,13 @@ sys.path.insert(0, os.path.dirname(os.path.dirname(os.path.realpath(__file__))))
 import cases
 from cases import TracerTest
 from report import checker_answers, expressions, function_names, later_runs, source_lines, stack_rows, text
+from report.checker_answers import Site
+from report.elf import Elf
 from report.failure import Failure
 from report.pairs import Variable
+from report.program import Program
 from report.run_notes import Notes
+from report.sites import Sites
 from report.source_lines import Position
 from report.stack_rows import Frame
 from report.variables import Names, name_of_symbol
@@ -168,6 +172,45 @@ class NotesTest(TracerTest):
     def test_faults(self):
         for lines in ([], self.LINES, [*self.LINES, "unknown 1", "end"]):
             self.assertRaises(Failure, Notes, lines)
+
+
+class ProgramTest(TracerTest):
+    """Pairs of a program without hooks, from notes and sites as hooks would write them."""
+    TEXT = "static int table[4];\nvoid set(void) { table[1] = 1; }\nint main(void) { set(); table[2] = 3; return table[0]; }\n"
+
+    def setUp(self):
+        super().setUp()
+        self.write("plain.c", self.TEXT)
+        self.succeeds("gcc", "-g", "-no-pie", "-o", "plain", "plain.c")
+        elf = Elf("plain")
+        # An address is that behind a call.
+        self.set, self.main = (next(one.start for one in elf.functions.all if one.name == name) + 1 for name in ("set", "main"))
+        [table] = [one.start for one in elf.variables.all if one.name == "table"]
+        self.address, self.location = table + 4, 2 * ((table + 4) // 4)
+
+    def test_notes(self):
+        notes = Notes([f"pair 2 {self.location} {self.address:x} 1 0", f"first write 0 {self.set:x} {self.main:x} spawn",
+                       f"second write 0 {self.main:x}", f"waits {self.main:x}",
+                       f"at 1 {self.location} 2 {self.address:x} 0 0 0 0", "end"])
+        [pair] = Program("plain", 4, notes, []).of_notes(notes.pairs)
+        self.assertEqual((2, self.location, "global", "table", 4, 16, "table[1]", ["table[1]", "table[2]"], 2),
+                         (pair.races, pair.location, pair.variable.kind, pair.variable.name, pair.variable.offset,
+                          pair.variable.size, pair.variable.expression, pair.variable.parts, pair.variable.parts_count))
+        self.assertEqual([[("write", 2, "set", 2), ("spawn", 3, "main", 1)], [("write", 3, "main", 1)]],
+                         [[(frame.role, frame.position.line, frame.position.function, frame.depth) for frame in side.stack]
+                          for side in pair.sides])
+        main = pair.sides[1].lead()
+        self.assertEqual(("main", "spawn", main, main, main, False), pair.missing_sync)
+        self.assertEqual(("cilk_sync",), pair.suggested)
+        self.assertEqual("pair:plain.c:2 plain.c:3 table", pair.suppression())
+
+    def test_sites(self):
+        """Both hold a lock but for one of two: without it the race is another."""
+        free, held = (Site(self.set, False, guards) for guards in ((), ((8, "the lock m"),)))
+        groups = [Sites(("write", "write"), (site, held), [self.location, self.location + 2]) for site in (free, held)]
+        found = Program("plain", 4, None, [groups]).of_sites(groups)
+        self.assertEqual([(None, 2, "table[1]"), ("the lock m", 2, "table[1]")],
+                         [(pair.guard, pair.races, pair.variable.expression) for pair in found])
 
 
 class AnswersTest(TracerTest):
