@@ -3,7 +3,7 @@ from __future__ import annotations
 
 from typing import TYPE_CHECKING
 
-from report import expressions, source_lines
+from report import source_lines
 from report.result import NO_OPENMP
 from report.source_lines import Position
 from report.stack_rows import place
@@ -56,6 +56,7 @@ def of_cilk(pair: Pair, unit: int) -> tuple[str, ...]:
 
 
 def is_update(position: Position) -> bool:
+    from report import expressions
     above, below = (source_lines.text_of(position._replace(line=position.line + step)) for step in (-1, 1))
     return expressions.updates(source_lines.text_of(position), above, below)
 

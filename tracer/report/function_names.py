@@ -1,11 +1,16 @@
 """What the text calls functions: a lambda by the line where it begins, and a template without its long arguments."""
+from __future__ import annotations
+
 import functools
 import os
 import re
+from typing import TYPE_CHECKING
 
 from report import source_lines
 from report.source_lines import Position
-from tokens import Token, tokens_of
+
+if TYPE_CHECKING:
+    from tokens import Token
 
 # What gcc and clang call a lambda.
 LAMBDA = re.compile(r"\{lambda\(|'lambda[0-9]*'|\$_[0-9]+\b")
@@ -51,6 +56,7 @@ def line_of_lambda(position: Position) -> int | None:
 @functools.lru_cache
 def lambdas_of(file: str) -> list[tuple[int, int]]:
     """The first and the last line of each lambda of a source."""
+    from tokens import tokens_of
     tokens = tokens_of(source_lines.without_comments("\n".join(source_lines.lines_of(file))))
     ends = ((token, end_of_lambda(tokens, at)) for at, token in enumerate(tokens) if token.text == "[")
     return [(token.line, tokens[end].line) for token, end in ends if end is not None]
