@@ -137,7 +137,7 @@ class Dwarf:
         return table
 
     def attributes(self, at: int) -> tuple[list[tuple[int, int, int | None]], int]:
-        found = []
+        found: list[tuple[int, int, int | None]] = []
         while True:
             attribute, at = uleb(self.abbrev, at)
             form, at = uleb(self.abbrev, at)
@@ -205,7 +205,8 @@ class Dwarf:
 
     def read_children(self, entry: Entry) -> tuple[list[int], int]:
         """Where they begin, and where they end."""
-        starts, at = [], entry.end
+        starts: list[int] = []
+        at = entry.end
         while at < entry.unit.end:
             child = self.entry_or_end(entry.unit, at)
             if child is None:

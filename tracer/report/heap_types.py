@@ -262,9 +262,9 @@ class HeapTypes:
 
     def has_all(self, kind: Entry, size: int, line: Line) -> bool:
         """Whether a block that this line allocates has elements of this type alone."""
-        element = self.shapes.size(kind)
-        may_have_cookie = kind.tag in CLASSES and element and COOKIE % element == 0 and re.search(r"\bnew\b", line.text)
-        return bool(element) and size % element == 0 and not may_have_cookie
+        element = self.shapes.size(kind) or 0
+        may_have_cookie = kind.tag in CLASSES and element > 0 and COOKIE % element == 0 and re.search(r"\bnew\b", line.text)
+        return element > 0 and size % element == 0 and not may_have_cookie
 
 
 def spelled(made: Made, path: str) -> str:

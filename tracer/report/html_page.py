@@ -7,10 +7,11 @@ from collections.abc import Iterator
 from itertools import chain, groupby
 from typing import NamedTuple
 
-import jinja2
-from markupsafe import Markup, escape
-from pygments import token
-from pygments.lexers.c_cpp import CLexer, CppLexer
+# mypy: no-warn-unused-ignores
+import jinja2  # type: ignore[import]
+from markupsafe import Markup, escape  # type: ignore[import]
+from pygments import token  # type: ignore[import]
+from pygments.lexers.c_cpp import CLexer, CppLexer  # type: ignore[import]
 
 from report import pairs, source_lines, stack_rows, text
 from report.function_names import function_of
@@ -87,7 +88,7 @@ def coloured(file: str) -> list[str]:
 
 
 @functools.cache
-def lines_around(file: str, line: int) -> str:
+def lines_around(file: str, line: int) -> Markup:
     """The lines round one as HTML, each with its number; that one is marked."""
     lines = coloured(file)
     first, last = max(line - AROUND, 1), min(line + AROUND, len(lines) - (lines[-1:] == [""]))
@@ -95,7 +96,7 @@ def lines_around(file: str, line: int) -> str:
     for number in range(first, last + 1):
         row = Markup("{}  {}").format(f"{number:{width}}", lines[number - 1])
         made.append(Markup("<mark>{}</mark>").format(row) if number == line else row)
-    return Markup("\n").join(made) if line > 0 else ""
+    return Markup("\n").join(made) if line > 0 else Markup("")
 
 
 def excerpt_of(lead: Position, name: str = "") -> Excerpt:
@@ -201,10 +202,10 @@ def page_of(report: Report, status: int) -> str:
     table = Table(report)
     environment = jinja2.Environment(loader=jinja2.FileSystemLoader(HERE), autoescape=True, trim_blocks=True,
                                      lstrip_blocks=True, undefined=jinja2.StrictUndefined)
-    return environment.get_template(TEMPLATE).render(
+    return str(environment.get_template(TEMPLATE).render(
         program=os.path.basename(report.words[0]), command=shlex.join(report.words), report=report,
         last_line=text.last_line(report), ended=ending_of(report.ended), status=status, meaning=meaning_of(report),
         unseen=text.left_out_lines(report), notes=[*report.notes, *map(text.suppression_line, report.suppressions)],
         groups=table.groups,
         pairs=[pair_of(number, pair, report.unit) for number, pair in enumerate(report.pairs[:WHOLE], 1)],
-        excerpts=[excerpt_of(lead) for lead in table.excerpts])
+        excerpts=[excerpt_of(lead) for lead in table.excerpts]))

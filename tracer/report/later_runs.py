@@ -12,6 +12,7 @@ from report.program_input import disk_file
 from report.run_notes import Notes, is_stream
 from report.runs import Run, Runner, file_of
 from report.sites import by_sites, common_guard
+from report.stack_rows import place
 
 # So many sources are named that are newer than the program.
 MOST_NEWER = 3
@@ -81,7 +82,7 @@ class Looks:
     def found(self, run: Run, places: BinaryIO | None = None, divided: BinaryIO | None = None) -> Found:
         return Found(run, places, divided, self.unit, self.chosen.streams)
 
-    def another(self, divided: BinaryIO | None = None, keeps_places: bool = False, **settings: str) -> Found:
+    def another(self, divided: BinaryIO | None, settings: dict[str, str], keeps_places: bool = False) -> Found:
         """What one more run finds."""
         files = files_of(divided)
         if not keeps_places:
@@ -94,7 +95,7 @@ class Looks:
         """What the first run couldn't see behind taskwaits is seen by one in which their tasks are parts of their
         parents. Whether that did the same: otherwise the lines about that stay."""
         try:
-            behind = self.another() if run.is_whole() else None
+            behind = self.another(None, {}) if run.is_whole() else None
         except (Failure, OSError):
             behind = None
         before = len(self.pairs)
@@ -122,7 +123,7 @@ class Looks:
         if not ordered:
             return
         first, *others = ordered
-        lines = " and ".join(text.place(side.lead()) for side in first.sides)
+        lines = " and ".join(place(side.lead()) for side in first.sides)
         more = f", and {text.many(len(others), 'more pair')}" if others else ""
         self.notes.append(f"the order in which children use {text.whole_name(first.variable)} isn't determined: "
                           f"{lines}{more}. --streams reports this")
@@ -135,7 +136,7 @@ class Looks:
         again = first
         try:
             if not reason:
-                again = self.another(file_of(sorted(narrow)), **last_of(first.run))
+                again = self.another(file_of(sorted(narrow)), last_of(first.run))
                 reason = None if again.has_course_of(first, narrow) else "took another path"
         except (Failure, OSError) as error:
             reason = f"has no answer: {reason_of(error)}"
@@ -183,7 +184,7 @@ class Looks:
     def from_start(self, found: Found) -> Found | None:
         """A run that looks from its start, so that each of its races has its lines."""
         try:
-            return self.another(found.divided, keeps_places=True, **last_of(found.run))
+            return self.another(found.divided, last_of(found.run), keeps_places=True)
         except (Failure, OSError) as error:
             self.notes.append(f"a run that looks from its start has no answer: {reason_of(error)}")
             return None

@@ -1,6 +1,7 @@
 """The pairs of source positions of a program's races: their stacks, their variables, and what orders them."""
 from collections.abc import Iterable, Iterator, Sequence
 
+from installation import is_own
 from report import advice, checker_answers, source_lines
 from report.checker_answers import Guard
 from report.dwarf_types import Run
@@ -63,7 +64,7 @@ class Program:
             if word == "spawn":
                 continue
             there = self.positions[int(word, 16)]
-            positions = [position for position in there if shows_own or not source_lines.is_own(position.file)]
+            positions = [position for position in there if shows_own or not is_own(position.file)]
             spawns |= behind == "spawn"
             before, part = part, there[0].part
             if frames and not spawns and (before == Position.STATEMENT or part == Position.WAY):
@@ -227,7 +228,7 @@ class Program:
 
     def owner(self, words: Sequence[str]) -> str | None:
         """What has a block that the library allocates for it."""
-        inside = None
+        inside: Position | None = None
         for code in (int(word, 16) for word in words if word != "spawn"):
             for position in self.positions[code]:
                 if not source_lines.is_system(position):

@@ -185,7 +185,8 @@ class Session:
         if own > 0:
             notes.append(f"{text.many(own, 'pair')} of thread-local variables left out: a data race if one child "
                          "reaches another thread's by a pointer")
-        spawns, accesses = [int(word) for word in run.words("ran")] or [None, None]
+        ran = run.words("ran")
+        spawns, accesses = (int(ran[0]), int(ran[1])) if ran else (None, None)
         ended = result.Ended(run.status if run.status >= 0 else None, -run.status if run.status < 0 else None, run.is_whole())
         return result.Report(chosen.command, int(self.unit), ended, spawns, accesses, races, rest[:chosen.most],
                              result.count(rest[chosen.most:]), result.count(suppressed), result.count(guarded),
@@ -244,8 +245,9 @@ def page_of(found: result.Report | None, chosen: argparse.Namespace) -> str:
 def answer(chosen: argparse.Namespace) -> int:
     """Shows the report, and gives the status."""
     # What can't be written, or made, is told before the program runs.
-    for name in filter(None, (chosen.output, chosen.html)):
-        open(name, "a").close()
+    for name in (chosen.output, chosen.html):
+        if name:
+            open(name, "a").close()
     if chosen.html:
         page_of(None, chosen)
     session = Session(chosen)

@@ -153,7 +153,7 @@ class Names:
         if not dwarf.section(".debug_addr"):
             return None
         # clang's addresses are in a table of their own.
-        return next(filter(is_wanted, (entry for unit in dwarf.units for entry in self.below(dwarf.root(unit)))), None)
+        return next((entry for unit in dwarf.units for entry in self.below(dwarf.root(unit)) if is_wanted(entry)), None)
 
     def below(self, entry: Entry) -> Iterator[Entry]:
         for child in self.dwarf.each_child(entry):

@@ -18,7 +18,7 @@ from report.run_notes import Notes
 from report.sites import Sites
 from report.source_lines import Position
 from report.stack_rows import Frame
-from report.variables import Names, name_of_symbol
+from report.variables import Named, Names, name_of_symbol
 
 # With -g, and without a hook: `table` has elements of 104 bytes, whose `inner` begin at byte 4 and are of 24 bytes.
 TYPES = """#include <unistd.h>
@@ -31,8 +31,14 @@ int main(void) {
 """
 
 
+def part_of(names: Names, start: int, offset: int) -> Named:
+    found = names.at(start, offset)
+    assert found
+    return found
+
+
 class RowsTest(TracerTest):
-    def test_innermost(self):
+    def test_innermost(self) -> None:
         """Of a stack in the library's headers the function that does the access has a row, and so has the outermost."""
         at = [Position(*words) for words in (("/usr/include/c++/store.h", 3, "store"), ("/usr/include/c++/pass.h", 5, "pass"),
                                              ("/usr/include/c++/sort.h", 7, "sort"), ("own.cpp", 9, "main"))]
@@ -44,7 +50,7 @@ class RowsTest(TracerTest):
             self.assertEqual(["/usr/include/c++/store.h:3", "own.cpp:9"],
                              [row.split()[0] for row in text.stack_rows("program", list(range(len(at))))])
 
-    def test_cycles(self):
+    def test_cycles(self) -> None:
         """Rows that come again and again in turn are shown once, with their number."""
         lines = [*[1, 2, 3, 2, 3, 2, 3], *[4, 4, 5, 4, 4, 5], *[6, 6], 7]
         shown = stack_rows.rows([Frame("call", Position("own.c", line, "f"), 1) for line in lines])
@@ -52,7 +58,7 @@ class RowsTest(TracerTest):
                           ("own.c:5", "these 2 rows 2 times"), ("own.c:6", "2 times"), ("own.c:7", "")],
                          [(row.place, row.behind) for row in shown])
 
-    def test_long(self):
+    def test_long(self) -> None:
         """The first rows and the last ones are shown; one that would be left out alone is."""
         for count, wanted in ((41, None), (42, "2 more")):
             rows = stack_rows.rows([Frame("call", Position("own.c", line, "f"), 1) for line in range(1, count + 1)])
@@ -60,7 +66,7 @@ class RowsTest(TracerTest):
 
 
 class WordsTest(TracerTest):
-    def test_functions(self):
+    def test_functions(self) -> None:
         """A lambda is named by its line, and long arguments of templates are folded."""
         self.write("lambdas.cpp", "// don't [\nint main() {\n    int a[2];\n    auto f = [&](int i) {\n        a[i] = 1;\n"
                               "        auto g = [=]() mutable -> int {\n            return a[i];\n        };\n"
@@ -78,7 +84,7 @@ class WordsTest(TracerTest):
                 self.assertEqual(wanted, function_names.function_of(Position("lambdas.cpp", line, function)))
         self.assertEqual("lambda in main", function_names.function_of(Position("none.cpp", 5, gcc)))
 
-    def test_parts(self):
+    def test_parts(self) -> None:
         """All members are named; of many elements one, and the number of the others."""
         for parts, number, wanted in (([f"s.{name}" for name in "abcde"], 5, "s.a, s.b, s.c, s.d and s.e"),
                                       (["s[0]", "s[7]"], 2, "s[0] and s[7]"),
@@ -88,13 +94,13 @@ class WordsTest(TracerTest):
             with self.subTest(wanted):
                 self.assertEqual(wanted, text.parts_named(Variable("global", name="s", parts=parts, parts_count=number)))
 
-    def test_told(self):
+    def test_told(self) -> None:
         """What can't wait for the report is as wide."""
         words = "for 30 seconds the program has touched no new memory and started no task. It goes on, since it may"
         self.assertEqual(["spbags-run: for 30 seconds the program has touched no new memory",
                           "    and started no task. It goes on, since it may"], text.told(words, 67))
 
-    def test_updates(self):
+    def test_updates(self) -> None:
         """A line that makes of a variable what it was and more, whatever else stands there."""
         for line, wanted in (("sum += x;", True), ("sum = x;", False), ("++n, sum -= x;", True), ("n++, out = x;", False),
                              ("best = std::max(best, x);", True), ("best = x > best ? x : best;", True),
@@ -105,7 +111,7 @@ class WordsTest(TracerTest):
             with self.subTest(line):
                 self.assertEqual(wanted, expressions.updates(line))
 
-    def test_newer(self):
+    def test_newer(self) -> None:
         for files, wanted in (([], None), (["a.c"], "a.c is newer"), (["a.c", "b.c"], "a.c and b.c are newer"),
                               (["a.c", "b.c", "c.c", "d.c", "e.c"], "a.c, b.c, c.c and 2 more are newer")):
             self.assertEqual([wanted] if wanted else [],
@@ -113,33 +119,34 @@ class WordsTest(TracerTest):
 
 
 class NamesTest(TracerTest):
-    def test_symbols(self):
+    def test_symbols(self) -> None:
         for symbol, wanted in (("calls.0", "calls"), ("main.calls", "calls"), ("one::two", "one::two"),
                                ("optind@GLIBC_2.2.5", "optind"), (".gomp_critical_user_name", "name"),
                                (".gomp_critical_user_name.var", "name"), (".gomp_critical_user_.var", "without a name")):
             self.assertEqual(wanted, name_of_symbol(symbol))
 
-    def test_globals(self):
+    def test_globals(self) -> None:
         """The parts of a global, by DWARF of each version; two bit-fields in one byte have no name of their own. A
         variable of the library that the program has a copy of has the library's name."""
         self.write("types.c", TYPES)
         for version in ("4", "5"):
             self.succeeds("gcc", "-g", "-gdwarf-" + version, "-no-pie", "-o", "types", "types.c")
             names = Names("types")
-            starts = {names.symbol(symbol.start).name: symbol.start for symbol in names.elf.variables.all}
+            known = [(names.symbol(symbol.start), symbol.start) for symbol in names.elf.variables.all]
+            starts = {found.name: start for found, start in known if found}
             table = starts["table"]
             with self.subTest(version):
                 self.assertLessEqual({"calls", "optind"}, set(starts))
                 for offset, wanted, rest in ((256, "table[2].inner[1].rows[1][2]", None), (104, "table[1].kind", None),
                                              (204, "table[1]", (100, 104))):
-                    found = names.at(table, offset)
-                    self.assertEqual((wanted, rest, 520), (found.expression, found.rest, found.size))
+                    part = part_of(names, table, offset)
+                    self.assertEqual((wanted, rest, 520), (part.expression, part.rest, part.size))
                 rows = [f"table[0].inner[0].rows[{row}][{column}]" for row in range(2) for column in range(3)]
-                self.assertEqual((rows, 6), names.parts(names.at(table, 0).entry, "table", [(4, 12), (12, 28)], 20))
-                self.assertEqual((rows[:2], 20 * 6), names.parts(names.at(table, 0).entry, "table", [(4, 100), (108, 204),
-                                 (212, 308), (316, 412), (420, 516)], 2))
+                entry, runs = part_of(names, table, 0).entry, [(104 * at + 4, 104 * at + 100) for at in range(5)]
+                self.assertEqual((rows, 6), names.parts(entry, "table", [(4, 12), (12, 28)], 20))
+                self.assertEqual((rows[:2], 20 * 6), names.parts(entry, "table", runs, 2))
 
-    def test_bit_fields(self):
+    def test_bit_fields(self) -> None:
         """DWARF 4 counts bits from the end of what holds them, and 5 from the beginning of the struct."""
         self.write("bits.c", "struct { unsigned short first : 9, second : 7; unsigned last; } bits;\n"
                              "int main(void) { return bits.last; }\n")
@@ -147,7 +154,7 @@ class NamesTest(TracerTest):
             self.succeeds("gcc", "-g", "-gdwarf-" + version, "-no-pie", "-o", "bits", "bits.c")
             names = Names("bits")
             [start] = [symbol.start for symbol in names.elf.variables.all if symbol.name == "bits"]
-            self.assertEqual(["bits.first", "bits", "bits.last"], [names.at(start, at).expression for at in (0, 1, 4)])
+            self.assertEqual(["bits.first", "bits", "bits.last"], [part_of(names, start, at).expression for at in (0, 1, 4)])
 
 
 class NotesTest(TracerTest):
@@ -155,7 +162,7 @@ class NotesTest(TracerTest):
              "child loop 4033 5 9", "waits 4055", "guard 9 the lock ", "block 1000 24 4066", "at 1 14 2 1c 0 0 4088 -8",
              "other 1 18 1 24 4099 -16 0 0", "held 1 4 8", "narrow 14", "left 2", "astray 7 a read of location 5"]
 
-    def test_pair(self):
+    def test_pair(self) -> None:
         """What hooks/look.c writes: addresses as hexadecimal numbers, `spawn` behind what spawned."""
         notes = Notes([*self.LINES, "end"])
         [noted] = notes.pairs
@@ -169,7 +176,7 @@ class NotesTest(TracerTest):
                          (notes.thread, notes.narrow, notes.left, notes.astray))
         self.assertEqual({0x4011, 0x4022, 0x4044, 0x4033, 0x4055, 0x4066, 0x4088, 0x4099}, set(notes.codes()))
 
-    def test_faults(self):
+    def test_faults(self) -> None:
         for lines in ([], self.LINES, [*self.LINES, "unknown 1", "end"]):
             self.assertRaises(Failure, Notes, lines)
 
@@ -178,7 +185,7 @@ class ProgramTest(TracerTest):
     """Pairs of a program without hooks, from notes and sites as hooks would write them."""
     TEXT = "static int table[4];\nvoid set(void) { table[1] = 1; }\nint main(void) { set(); table[2] = 3; return table[0]; }\n"
 
-    def setUp(self):
+    def setUp(self) -> None:
         super().setUp()
         self.write("plain.c", self.TEXT)
         self.succeeds("gcc", "-g", "-no-pie", "-o", "plain", "plain.c")
@@ -188,7 +195,7 @@ class ProgramTest(TracerTest):
         [table] = [one.start for one in elf.variables.all if one.name == "table"]
         self.address, self.location = table + 4, 2 * ((table + 4) // 4)
 
-    def test_notes(self):
+    def test_notes(self) -> None:
         notes = Notes([f"pair 2 {self.location} {self.address:x} 1 0", f"first write 0 {self.set:x} {self.main:x} spawn",
                        f"second write 0 {self.main:x}", f"waits {self.main:x}",
                        f"at 1 {self.location} 2 {self.address:x} 0 0 0 0", "end"])
@@ -204,7 +211,7 @@ class ProgramTest(TracerTest):
         self.assertEqual(("cilk_sync",), pair.suggested)
         self.assertEqual("pair:plain.c:2 plain.c:3 table", pair.suppression())
 
-    def test_sites(self):
+    def test_sites(self) -> None:
         """Both hold a lock but for one of two: without it the race is another."""
         free, held = (Site(self.set, False, guards) for guards in ((), ((8, "the lock m"),)))
         groups = [Sites(("write", "write"), (site, held), [self.location, self.location + 2]) for site in (free, held)]
@@ -214,13 +221,13 @@ class ProgramTest(TracerTest):
 
 
 class AnswersTest(TracerTest):
-    def test_locations(self):
+    def test_locations(self) -> None:
         """A byte of a unit has a location of its own: its unit is that of the heap or, if it is odd, of the stack."""
         byte = checker_answers.FIRST_BYTE + 8 * 14 + 3
         self.assertEqual((14, 14, 7 * 4, 7 * 4 + 3), (checker_answers.unit_of(14), checker_answers.unit_of(byte),
                                                       checker_answers.address_of(14, 4), checker_answers.address_of(byte, 4)))
 
-    def test_packed(self):
+    def test_packed(self) -> None:
         """So many new numbers, and then so many that repeat the last ones."""
         self.assertEqual([7, 8, 9, 8, 9, 8, 6], checker_answers.unpacked([3, 7, 8, 9, 2, 3, 1, 6]))
 
