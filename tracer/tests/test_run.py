@@ -151,6 +151,12 @@ class ReportTest(RunTest):
         self.assertEqual(("set", "static void set(int *at) { *at = 1; } /* [set] */"),
                          tuple(pair["first"]["user_frame"][name] for name in ("function", "text")))
 
+    def test_without_nm(self):
+        """Symbols are read without `nm`, which takes 110 MB for the plugins of compilers."""
+        self.write_script("nm", "#!/bin/sh\nexit 1\n")
+        [pair] = self.found("global", PATH=f"{os.getcwd()}:{os.environ['PATH']}")[1]["pairs"]
+        self.assertEqual(("table", "table[2]"), of_variable(pair, "name", "expression"))
+
     def test_static(self):
         [pair] = self.found("static")[1]["pairs"]
         child = [("write", "[count]"), ("spawn", "[spawn static]"), MAIN]
