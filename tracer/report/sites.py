@@ -2,7 +2,7 @@
 from collections.abc import Iterable
 from dataclasses import dataclass, field
 
-from report import checker_answers, source_lines
+from report import source_lines
 from report.checker_answers import Guard, Places, Race, Site
 from report.pairs import Pair, Side, Variable, merged
 from report.result import UNKNOWN_GUARD

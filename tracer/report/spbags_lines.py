@@ -17,12 +17,13 @@ import argparse
 import os
 import re
 import sys
-from collections.abc import Iterable
+from collections.abc import Iterable, Iterator
 
 from installation import VERSION
 from report import checker_answers, sites, source_lines, text
 from report.checker_answers import Race
 from report.failure import Failure, reason_of
+from report.function_names import function_of
 from report.messages import with_lines
 from report.pairs import Pair
 from report.source_lines import Position
@@ -71,6 +72,32 @@ def show(lines: Iterable[str]) -> None:
         print(line)
 
 
+def source_line(position: Position) -> str:
+    return f"{position.file}:{position.line}"
+
+
+def side_lines(sides: list[tuple[Position, str]]) -> Iterator[str]:
+    """Each side is a position and what happens there."""
+    width = max(len(source_line(position)) for position, _ in sides)
+    for position, what in sides:
+        yield (f"{text.INDENT}{source_line(position):{width}}  {what:5}  in {function_of(position)}:  "
+               f"{source_lines.text_of(position)}").rstrip()
+
+
+def pair_lines(pairs: list[Pair]) -> Iterator[str]:
+    """A paragraph for each pair; a race alone has its location, if the answer says it."""
+    yield f"races {sum(pair.races for pair in pairs)}, pairs of lines {len(pairs)}"
+    for pair in pairs:
+        named = f" of location {pair.location}" if pair.races == 1 and pair.location >= 0 else ""
+        yield f"\n{text.many(pair.races, 'race')}{named}"
+        yield from side_lines([(side.lead(), " or ".join(sorted(kinds))) for side, kinds in zip(pair.sides, pair.kinds)])
+
+
+def brief_lines(pairs: list[Pair]) -> Iterator[str]:
+    for pair in pairs:
+        yield " ".join([str(pair.races), *(source_line(side.lead()) for side in pair.sides)])
+
+
 def explain(lines: list[str], places: Places) -> None:
     """Each line of the explanation, and below it where its places are. The root has none, nor has its end."""
     rows = []
@@ -82,7 +109,7 @@ def explain(lines: list[str], places: Places) -> None:
         print(line, end="")
         sides = [(positions[place], what) for what, place in words if positions[place].line > 0]
         if sides:
-            show(text.side_lines(sides))
+            show(side_lines(sides))
 
 
 def confirm(entry: int | None, places: Places, report: str | None) -> None:
@@ -96,7 +123,7 @@ def confirm(entry: int | None, places: Places, report: str | None) -> None:
         raise Failure(f"{report} has no entry {entry}: does the answer belong to another report?")
     race = races[entry - 1]
     positions = places.positions({access.place for access in race.accesses})
-    show(text.side_lines([(positions[access.place], access.kind) for access in race.accesses]))
+    show(side_lines([(positions[access.place], access.kind) for access in race.accesses]))
 
 
 def answer(lines: list[str], brief: bool, places: Places, report: str | None) -> int:
@@ -112,7 +139,7 @@ def answer(lines: list[str], brief: bool, places: Places, report: str | None) ->
         explain(lines, places)
         return 1
     races = checker_answers.races_of(lines)
-    show((text.brief_lines if brief else text.pair_lines)(places.pairs(races)))
+    show((brief_lines if brief else pair_lines)(places.pairs(races)))
     for note in with_lines(places.program, places.places.notes):
         print("note:", note)
     return 1 if races else 0

@@ -10,7 +10,6 @@ from typing import TYPE_CHECKING
 from report import advice, source_lines
 from report.function_names import function_of
 from report.result import NO_OPENMP, THREAD_LOCAL, UNKNOWN_GUARD, Report
-from report.source_lines import Position
 from report.stack_rows import (
     BOTH, Frame, Row, access_rows, allocation_rows, common_tail, place, rows, without_regions)
 
@@ -360,31 +359,3 @@ def suppressions(pairs: Iterable[Pair]) -> Iterator[str]:
             first, second = (place(side.lead()) for side in pair.sides)
             yield f"# {many(pair.races, 'location')}: {kinds_of(pair)}, {first} and {second}"
         yield line or "# Nothing there has a name that a line could match."
-
-
-# ---- Answers of `spbags` with their source lines ----
-
-def source_line(position: Position) -> str:
-    return f"{position.file}:{position.line}"
-
-
-def side_lines(sides: list[tuple[Position, str]]) -> Iterator[str]:
-    """Each side is a position and what happens there."""
-    width = max(len(source_line(position)) for position, _ in sides)
-    for position, what in sides:
-        yield (f"{INDENT}{source_line(position):{width}}  {what:5}  in {function_of(position)}:  "
-               f"{source_lines.text_of(position)}").rstrip()
-
-
-def pair_lines(pairs: list[Pair]) -> Iterator[str]:
-    """A paragraph for each pair; a race alone has its location, if the answer says it."""
-    yield f"races {sum(pair.races for pair in pairs)}, pairs of lines {len(pairs)}"
-    for pair in pairs:
-        named = f" of location {pair.location}" if pair.races == 1 and pair.location >= 0 else ""
-        yield f"\n{many(pair.races, 'race')}{named}"
-        yield from side_lines([(side.lead(), " or ".join(sorted(kinds))) for side, kinds in zip(pair.sides, pair.kinds)])
-
-
-def brief_lines(pairs: list[Pair]) -> Iterator[str]:
-    for pair in pairs:
-        yield " ".join([str(pair.races), *(source_line(side.lead()) for side in pair.sides)])

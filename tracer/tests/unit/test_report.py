@@ -8,7 +8,7 @@ sys.dont_write_bytecode = True
 sys.path.insert(0, os.path.dirname(os.path.dirname(os.path.realpath(__file__))))
 import cases
 from cases import TracerTest
-from report import checker_answers, expressions, function_names, later_runs, source_lines, stack_rows, text
+from report import checker_answers, expressions, function_names, later_runs, stack_rows, text
 from report.checker_answers import Site
 from report.elf import Elf
 from report.failure import Failure
@@ -112,10 +112,11 @@ class WordsTest(TracerTest):
                 self.assertEqual(wanted, expressions.updates(line))
 
     def test_newer(self) -> None:
-        for files, wanted in (([], None), (["a.c"], "a.c is newer"), (["a.c", "b.c"], "a.c and b.c are newer"),
-                              (["a.c", "b.c", "c.c", "d.c", "e.c"], "a.c, b.c, c.c and 2 more are newer")):
-            self.assertEqual([wanted] if wanted else [],
-                             [line.partition(" than the program")[0] for line in later_runs.newer_hint(files)])
+        self.assertEqual([], later_runs.newer_hint([]))
+        for files, wanted in (("a.c", "a.c is"), ("a.c b.c", "a.c and b.c are"),
+                              ("a.c b.c c.c d.c e.c", "a.c, b.c, c.c and 2 more are")):
+            [line] = later_runs.newer_hint(files.split())
+            self.assertEqual(f"{wanted} newer than the program", line.partition(":")[0])
 
 
 class NamesTest(TracerTest):
