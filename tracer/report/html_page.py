@@ -203,7 +203,7 @@ def page_of(report: Report, status: int) -> str:
     environment = jinja2.Environment(loader=jinja2.FileSystemLoader(HERE), autoescape=True, trim_blocks=True,
                                      lstrip_blocks=True, undefined=jinja2.StrictUndefined)
     return str(environment.get_template(TEMPLATE).render(
-        program=os.path.basename(report.words[0]), command=shlex.join(report.words), report=report,
+        program=os.path.basename(report.command[0]), command=shlex.join(report.command), report=report,
         last_line=text.last_line(report), ended=ending_of(report.ended), status=status, meaning=meaning_of(report),
         unseen=text.left_out_lines(report), notes=[*report.notes, *map(text.suppression_line, report.suppressions)],
         groups=table.groups,

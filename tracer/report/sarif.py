@@ -80,6 +80,6 @@ def as_object(report: Report, version: str) -> Object:
     return {"$schema": SCHEMA, "version": "2.1.0", "runs": [{
         "tool": {"driver": {"name": "spbags-run", "version": version, "rules": rules}},
         "originalUriBaseIds": {ROOT: {"uri": uri_of(os.curdir).rstrip("/") + "/"}},
-        "invocations": [{"executionSuccessful": True, "arguments": report.words,
+        "invocations": [{"executionSuccessful": True, "arguments": report.command,
                          "toolExecutionNotifications": notifications_of(report)}],
         "results": [result_of(pair, report.unit, seen) for pair in report.pairs]}]}

@@ -11,6 +11,7 @@ import argparse
 import os
 import re
 import sys
+from collections.abc import Callable
 from typing import TYPE_CHECKING, BinaryIO, TextIO
 
 from installation import VERSION
@@ -52,45 +53,42 @@ def names(word: str) -> list[str]:
 
 def options() -> argparse.ArgumentParser:
     parser = argparse.ArgumentParser(
-        prog="spbags-run", description=__doc__, formatter_class=argparse.RawDescriptionHelpFormatter,
-        usage="spbags-run [options] -- PROGRAM [WORD ..]")
-    parser.add_argument("--shards", metavar="N", default="1",
-                        help="threads of spbags that share the locations, 1 to 64 (default 1, since the program runs too)")
-    parser.add_argument("--most", metavar="N", type=natural, default=20,
-                        help="show at most N pairs of lines (default 20)")
-    parser.add_argument("--repeats", action="store_true", help="write repeats into the trace too")
-    parser.add_argument("--keep", metavar="TRACE", help="keep the trace in this file, and its places in TRACE.places")
+        prog="spbags-run",
+        description=__doc__,
+        formatter_class=argparse.RawDescriptionHelpFormatter,
+        usage="spbags-run [options] -- PROGRAM [WORD ..]",
+    )
+
+    def flag(name: str, told: str, to: argparse._ActionsContainer = parser) -> None:
+        to.add_argument(name, action="store_true", help=told)
+
+    def value(name: str, metavar: str, told: str, default: object = None, of: Callable[[str], object] = str) -> None:
+        parser.add_argument(name, metavar=metavar, default=default, type=of, help=told)
+
+    value("--shards", "N", "threads of spbags that share the locations, 1 to 64 (default 1, since the program runs too)", "1")
+    value("--most", "N", "show at most N pairs of lines (default 20)", 20, natural)
+    flag("--repeats", "write repeats into the trace too")
+    value("--keep", "TRACE", "keep the trace in this file, and its places in TRACE.places")
     form = parser.add_mutually_exclusive_group()
-    form.add_argument("--json", action="store_true",
-                      help="print one JSON object; what the program prints then goes to standard error")
-    form.add_argument("--sarif", action="store_true",
-                      help="print SARIF 2.1.0, for editors and code review; the program's output goes as with --json")
-    parser.add_argument("--html", metavar="FILE", help="write the report into this file too, as a page for browsers")
-    parser.add_argument("--color", choices=("auto", "always", "never"), default="auto",
-                        help="colours in the text (default auto: on a terminal, unless NO_COLOR is set)")
-    parser.add_argument("--output", metavar="FILE", help="write the report into this file")
-    parser.add_argument("--source-root", metavar="DIR", default=os.curdir,
-                        help="name the files from this folder (default: the current one)")
-    parser.add_argument("--suppress", metavar="FILE",
-                        help="leave out races by the lines race:FUNCTION, race:FILE or variable:NAME of this file")
-    parser.add_argument("--gen-suppressions", action="store_true",
-                        help="print lines for --suppress that leave out each pair, in place of the report")
-    parser.add_argument("--data-races", action="store_true",
-                        help="leave out races whose accesses are both atomic or both hold one lock")
-    parser.add_argument("--streams", action="store_true", default=os.environ.get("SPBAGS_STREAMS") == "1",
-                        help="report children that use one stream or descriptor in an order that isn't determined")
-    parser.add_argument("--exitcode", metavar="N", type=status, default=1, help="the status if there is a race (default 1)")
-    parser.add_argument("--no-answer-status", metavar="N", type=status, default=2,
-                        help="the status if there is no answer (default 2; `git bisect run` needs 125)")
-    parser.add_argument("--one-run", action="store_true",
-                        help="run the program once, and look from its start: lines without stacks, for a program that "
-                             "can't be repeated")
-    parser.add_argument("--timeout", metavar="S", type=seconds,
-                        help="end the program after S seconds, and report what came before")
-    parser.add_argument("--incomplete-ok", action="store_true",
-                        help="status 0 if no race was found, even if something wasn't seen or modelled")
-    parser.add_argument("--unseen-ok", metavar="LIST", type=names, default=[],
-                        help="accept calls of these unknown functions: names separated by commas; * matches anything")
+    flag("--json", "print one JSON object; what the program prints then goes to standard error", form)
+    flag("--sarif", "print SARIF 2.1.0, for editors and code review; the program's output goes as with --json", form)
+    value("--html", "FILE", "write the report into this file too, as a page for browsers")
+    colours = "colours in the text (default auto: on a terminal, unless NO_COLOR is set)"
+    parser.add_argument("--color", choices=("auto", "always", "never"), default="auto", help=colours)
+    value("--output", "FILE", "write the report into this file")
+    value("--source-root", "DIR", "name the files from this folder (default: the current one)", os.curdir)
+    value("--suppress", "FILE", "leave out races by the lines race:FUNCTION, race:FILE or variable:NAME of this file")
+    flag("--gen-suppressions", "print lines for --suppress that leave out each pair, in place of the report")
+    flag("--data-races", "leave out races whose accesses are both atomic or both hold one lock")
+    flag("--streams", "report children that use one stream or descriptor in an order that isn't determined")
+    parser.set_defaults(streams=os.environ.get("SPBAGS_STREAMS") == "1")
+    value("--exitcode", "N", "the status if there is a race (default 1)", 1, status)
+    value("--no-answer-status", "N", "the status if there is no answer (default 2; `git bisect run` needs 125)", 2, status)
+    flag("--one-run", "run the program once, and look from its start: lines without stacks, if it can't be repeated")
+    value("--timeout", "S", "end the program after S seconds, and report what came before", None, seconds)
+    flag("--incomplete-ok", "status 0 if no race was found, even if something wasn't seen or modelled")
+    unseen = "accept calls of these unknown functions: names separated by commas; * matches anything"
+    value("--unseen-ok", "LIST", unseen, [], names)
     parser.add_argument("--version", action="version", version=f"spbags-run {VERSION}")
     parser.add_argument("command", nargs="+", metavar="PROGRAM")
     return parser
