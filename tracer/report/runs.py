@@ -27,8 +27,8 @@ MARK, INSIDE = b"SPBAGS_RECORDS", b"SPBAGS_INSIDE"
 PERSONALITY, ADDR_NO_RANDOMIZE = ctypes.CDLL(None).personality, 0x0040000
 MOST_DEPTH = "1000000"
 # What the environment of each run has.
-OURS = [f"SPBAGS_{name}" for name in ("PLACES", "TRACE", "REPORT", "EXITCODE", "LOOK", "DIVIDE", "LAST",
-                                     "WAITED", "PROGRESS", "HELP", "ROOM")]
+OWN = "PLACES TRACE REPORT EXITCODE LOOK DIVIDE LAST WAITED PROGRESS HELP ROOM"
+OURS = [f"SPBAGS_{name}" for name in OWN.split()]
 
 
 def checker() -> str:
