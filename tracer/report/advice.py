@@ -26,8 +26,11 @@ def of_openmp(noted: Noted, siblings: Siblings | None, variable: Variable) -> tu
     if not siblings:
         return ("taskwait", "depend") if first.of in ("task", "taskloop") else ("barrier",)
     clauses = {"sections": (), "task": ("reduction",)}.get(siblings.construct, ("private", "reduction"))
-    return (*(clauses if variable.name else ()), *(() if noted.guard else ("atomic", "critical")),
-            *(("single",) if siblings.construct == "region" else ()))
+    return (
+        *(clauses if variable.name else ()),
+        *(() if noted.guard else ("atomic", "critical")),
+        *(("single",) if siblings.construct == "region" else ()),
+    )
 
 
 def is_of_cilk(pair: Pair) -> bool:
@@ -57,6 +60,7 @@ def of_cilk(pair: Pair, unit: int) -> tuple[str, ...]:
 
 def is_update(position: Position) -> bool:
     from report import expressions
+
     above, below = (source_lines.text_of(position._replace(line=position.line + step)) for step in (-1, 1))
     return expressions.updates(source_lines.text_of(position), above, below)
 

@@ -35,8 +35,9 @@ def races_of(lines: list[str]) -> list[Race]:
     """The races of a report."""
     head = HEAD.fullmatch(lines[0]) if lines else None
     if not head:
-        raise Failure("the report has no first line `races N'" if lines else
-                      "the report is empty: did spbags find a fault?")
+        raise Failure(
+            "the report has no first line `races N'" if lines else "the report is empty: did spbags find a fault?"
+        )
     races = [race_of(line, number) for number, line in enumerate(lines[1:], 2)]
     if len(races) != int(head[2]):
         raise Failure(f"report line {len(lines) + 1}: bad")
@@ -68,7 +69,9 @@ def race_of(line: str, number: int) -> Race:
     if not race:
         raise Failure(f"report line {number}: bad")
     location, kind, place, other_kind, other_place = race.groups()
-    return Race(int(location) if location else NO_LOCATION, Access(kind, int(place)), Access(other_kind, int(other_place)))
+    return Race(
+        int(location) if location else NO_LOCATION, Access(kind, int(place)), Access(other_kind, int(other_place))
+    )
 
 
 # The number and the name of what an access held.
@@ -78,14 +81,15 @@ Guard = tuple[int, str]
 class Site(NamedTuple):
     """What a record's place says: the code address, whether the access there doesn't fill its unit, and what was held,
     or None where that isn't known."""
+
     code: int
     is_narrow: bool
     guards: tuple[Guard, ...] | None
 
 
-NO_SITE = 0xffff
+NO_SITE = 0xFFFF
 # The first part of a site's word, and the list that isn't known.
-CODE, NO_LIST = (1 << 48) - 1, 0x7fff
+CODE, NO_LIST = (1 << 48) - 1, 0x7FFF
 
 
 def guard_of(text: str) -> Guard:
@@ -108,8 +112,9 @@ class Places:
     """A run's file of places: packed blocks of numbers of 2 bytes, by hooks/places.h; where each block ends, as how
     many records and how many packed numbers stand before; the sites, the lists of guards, the lines of the report; and
     how many of all these there are."""
+
     END = struct.Struct("<QQQQQQ8s")
-    MARK, TWO, REPEAT = b"spbplace", 0xfffd, 0xfffe
+    MARK, TWO, REPEAT = b"spbplace", 0xFFFD, 0xFFFE
 
     def __init__(self, file: BinaryIO, name: str) -> None:
         self.name = name
@@ -121,12 +126,14 @@ class Places:
         starts = list(accumulate((2 * numbers, 16 * marks, 8 * sites, lists, notes)))
         if starts[-1] != size - self.END.size:
             raise Failure(f"{name}: this isn't a file of places")
-        self.marks = [(0, 0), *struct.iter_unpack("<QQ", self.bytes[starts[0]:starts[1]])]
+        self.marks = [(0, 0), *struct.iter_unpack("<QQ", self.bytes[starts[0] : starts[1]])]
         words = struct.unpack_from(f"<{sites}Q", self.bytes, starts[1])
         held = [(), *(tuple(map(guard_of, line.split("\t"))) for line in self.text(*starts[2:4]))]
         numbers_held = ((word, word >> 48 & NO_LIST) for word in words)
-        self.sites = [Site(word & CODE, word >> 63 == 1, held[number] if number != NO_LIST else None)
-                      for word, number in numbers_held]
+        self.sites = [
+            Site(word & CODE, word >> 63 == 1, held[number] if number != NO_LIST else None)
+            for word, number in numbers_held
+        ]
         self.notes = self.text(*starts[3:5])
         # The newest part that was read, and which that is; and the numbers of records that were looked up.
         self.part: int | None = None
@@ -146,9 +153,9 @@ class Places:
 
     def read_part(self, part: int) -> None:
         """Of the records of a block: where those of each site end, one behind the other."""
-        (at, first), (_, end) = self.marks[part:part + 2]
+        (at, first), (_, end) = self.marks[part : part + 2]
         self.part, self.ends, self.numbers = part, [], []
-        numbers = iter(unpacked(memoryview(self.bytes)[2 * first:2 * end].cast("H")))
+        numbers = iter(unpacked(memoryview(self.bytes)[2 * first : 2 * end].cast("H")))
         for number in numbers:
             if number == self.REPEAT:
                 at += next(numbers)

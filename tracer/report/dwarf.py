@@ -11,25 +11,25 @@ from report.elf import UNREADABLE, Elf, text_at
 # Forms by their size; those of another kind are read by a function of their own below.
 FORMS_OF_SIZE = {
     0: (0x19,),
-    1: (0x0b, 0x0c, 0x11, 0x25, 0x29),
-    2: (0x05, 0x12, 0x26, 0x2a),
-    3: (0x27, 0x2b),
-    4: (0x06, 0x0e, 0x10, 0x13, 0x17, 0x1c, 0x1d, 0x1f, 0x28, 0x2c, 0x1f20, 0x1f21),
+    1: (0x0B, 0x0C, 0x11, 0x25, 0x29),
+    2: (0x05, 0x12, 0x26, 0x2A),
+    3: (0x27, 0x2B),
+    4: (0x06, 0x0E, 0x10, 0x13, 0x17, 0x1C, 0x1D, 0x1F, 0x28, 0x2C, 0x1F20, 0x1F21),
     8: (0x01, 0x07, 0x14, 0x20, 0x24),
-    16: (0x1e,),
+    16: (0x1E,),
 }
 SIZES = {form: size for size, forms in FORMS_OF_SIZE.items() for form in forms}
-NUMBERS = {0x0f, 0x15, 0x1a, 0x1b, 0x22, 0x23, 0x1f01, 0x1f02}
-BLOCKS = {0x03: 2, 0x04: 4, 0x09: 0, 0x0a: 1, 0x18: 0}
-STRING, SIGNED, IMPLICIT, INDIRECT = 0x08, 0x0d, 0x21, 0x16
-STRP, LINE_STRP = 0x0e, 0x1f
-INDEXED_STRINGS, INDEXED_ADDRESSES = {0x1a, 0x25, 0x26, 0x27, 0x28}, {0x1b, 0x29, 0x2a, 0x2b, 0x2c}
+NUMBERS = {0x0F, 0x15, 0x1A, 0x1B, 0x22, 0x23, 0x1F01, 0x1F02}
+BLOCKS = {0x03: 2, 0x04: 4, 0x09: 0, 0x0A: 1, 0x18: 0}
+STRING, SIGNED, IMPLICIT, INDIRECT = 0x08, 0x0D, 0x21, 0x16
+STRP, LINE_STRP = 0x0E, 0x1F
+INDEXED_STRINGS, INDEXED_ADDRESSES = {0x1A, 0x25, 0x26, 0x27, 0x28}, {0x1B, 0x29, 0x2A, 0x2B, 0x2C}
 REFERENCES, GLOBAL_REFERENCE = {0x11, 0x12, 0x13, 0x14, 0x15}, 0x10
 INDEXED_LIST = 0x22
 
 # Attributes.
 SIBLING, LOCATION, NAME, SPECIFICATION, ORIGIN = 0x01, 0x02, 0x03, 0x47, 0x31
-STRINGS_BASE, ADDRESSES_BASE, LOCATIONS_BASE = 0x72, 0x73, 0x8c
+STRINGS_BASE, ADDRESSES_BASE, LOCATIONS_BASE = 0x72, 0x73, 0x8C
 
 
 def uleb(data: bytes, at: int) -> tuple[int, int]:
@@ -57,6 +57,7 @@ Abbreviation = tuple[int, bool, list[tuple[int, int, int | None]]]
 @dataclass
 class Unit:
     """A compile unit: where it, its entries and its abbreviations begin."""
+
     start: int
     first: int
     end: int
@@ -68,6 +69,7 @@ class Unit:
 @dataclass(eq=False)
 class Entry:
     """An entry, with the form and the value of each attribute that is a number, and the other ones that are blocks."""
+
     unit: Unit
     at: int
     tag: int
@@ -112,7 +114,7 @@ class Dwarf:
         at = 0
         while at < len(self.info):
             length, version = struct.unpack_from("<IH", self.info, at)
-            if length >= 0xfffffff0:
+            if length >= 0xFFFFFFF0:
                 return
             kind = 1
             if version == 5:
@@ -171,8 +173,10 @@ class Dwarf:
 
     def block(self, form: int, at: int) -> tuple[bytes, int]:
         width = BLOCKS[form]
-        size, start = (int.from_bytes(self.info[at:at + width], "little"), at + width) if width else uleb(self.info, at)
-        return self.info[start:start + size], start + size
+        size, start = (
+            (int.from_bytes(self.info[at : at + width], "little"), at + width) if width else uleb(self.info, at)
+        )
+        return self.info[start : start + size], start + size
 
     def entry_or_end(self, unit: Unit, at: int) -> Entry | None:
         """The entry that begins here; None is the end of others' children."""
@@ -264,7 +268,7 @@ class Dwarf:
             return text_at(self.info, value)
         if form in INDEXED_STRINGS:
             base = self.base(named.unit, STRINGS_BASE, 8)
-            value, = struct.unpack_from("<I", self.section(".debug_str_offsets"), base + 4 * value)
+            (value,) = struct.unpack_from("<I", self.section(".debug_str_offsets"), base + 4 * value)
         elif form not in (STRP, LINE_STRP):
             return None
         return text_at(self.section(".debug_line_str" if form == LINE_STRP else ".debug_str"), value)
@@ -279,7 +283,9 @@ class Dwarf:
         return self.indexed_address(entry.unit, value) if form in INDEXED_ADDRESSES and value is not None else value
 
     def indexed_address(self, unit: Unit, number: int) -> int:
-        found, = struct.unpack_from("<Q", self.section(".debug_addr"), self.base(unit, ADDRESSES_BASE, 8) + 8 * number)
+        (found,) = struct.unpack_from(
+            "<Q", self.section(".debug_addr"), self.base(unit, ADDRESSES_BASE, 8) + 8 * number
+        )
         return int(found)
 
     def expressions(self, entry: Entry) -> list[bytes]:
@@ -303,9 +309,9 @@ class Dwarf:
             at += 16
             if first == end == 0:
                 return
-            if first != 0xffffffffffffffff:
-                size, = struct.unpack_from("<H", data, at)
-                yield data[at + 2:at + 2 + size]
+            if first != 0xFFFFFFFFFFFFFFFF:
+                (size,) = struct.unpack_from("<H", data, at)
+                yield data[at + 2 : at + 2 + size]
                 at += 2 + size
 
     def new_list(self, at: int) -> Iterator[bytes]:
@@ -320,5 +326,5 @@ class Dwarf:
                 _, at = uleb(data, at)
             if kind not in (1, 6, 9):
                 size, at = uleb(data, at)
-                yield data[at:at + size]
+                yield data[at : at + size]
                 at += size

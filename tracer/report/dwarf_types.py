@@ -6,20 +6,21 @@ from typing import Any, NamedTuple, TypeVar, cast
 from report.dwarf import Dwarf, Entry
 
 # Tags.
-ARRAY, CLASS, MEMBER, POINTER, REFERENCE, STRUCTURE, TYPEDEF, UNION = 0x01, 0x02, 0x0d, 0x0f, 0x10, 0x13, 0x16, 0x17
-INHERITANCE, SUBRANGE, CONST, VOLATILE, RESTRICT, RIGHT_REFERENCE, ATOMIC = 0x1c, 0x21, 0x26, 0x35, 0x37, 0x42, 0x47
+ARRAY, CLASS, MEMBER, POINTER, REFERENCE, STRUCTURE, TYPEDEF, UNION = 0x01, 0x02, 0x0D, 0x0F, 0x10, 0x13, 0x16, 0x17
+INHERITANCE, SUBRANGE, CONST, VOLATILE, RESTRICT, RIGHT_REFERENCE, ATOMIC = 0x1C, 0x21, 0x26, 0x35, 0x37, 0x42, 0x47
 POINTERS, POINTER_SIZE = {POINTER, REFERENCE, RIGHT_REFERENCE}, 8
 RENAMING = {TYPEDEF, CONST, VOLATILE, RESTRICT, ATOMIC}
 WITH_MEMBERS = {CLASS, STRUCTURE, UNION}
 
 # Attributes.
-BYTE_SIZE, BIT_OFFSET, BIT_SIZE, UPPER_BOUND, COUNT = 0x0b, 0x0c, 0x0d, 0x2f, 0x37
-MEMBER_LOCATION, DECLARATION, TYPE, DATA_BITS = 0x38, 0x3c, 0x49, 0x6b
+BYTE_SIZE, BIT_OFFSET, BIT_SIZE, UPPER_BOUND, COUNT = 0x0B, 0x0C, 0x0D, 0x2F, 0x37
+MEMBER_LOCATION, DECLARATION, TYPE, DATA_BITS = 0x38, 0x3C, 0x49, 0x6B
 
 
 class Part(NamedTuple):
     """A part of a type that has no parts of its own which are known: the path to it, its first byte and its size, and
     whether it is a scalar."""
+
     path: str
     first: int
     size: int | None
@@ -33,11 +34,13 @@ Method = TypeVar("Method", bound=Callable[..., Any])
 
 def kept(method: Method) -> Method:
     """What a method finds of an entry, which is looked up once."""
+
     def found(self: "Shapes", entry: Entry | None) -> Any:
         key = method, entry.at if entry else None
         if key not in self.kept:
             self.kept[key] = method(self, entry)
         return self.kept[key]
+
     return cast(Method, found)
 
 
@@ -138,8 +141,14 @@ class Shapes:
 
     def touched(self, kind: Entry, first: int, end: int) -> list[tuple[Entry, int, int]]:
         """The members with these bytes, or none where two have the same."""
-        found = sorted(((member, start, size) for member, start, size in self.members(kind)
-                        if size and start < end and first < start + size), key=lambda member: member[1])
+        found = sorted(
+            (
+                (member, start, size)
+                for member, start, size in self.members(kind)
+                if size and start < end and first < start + size
+            ),
+            key=lambda member: member[1],
+        )
         return [] if any(one[1] + one[2] > other[1] for one, other in zip(found, found[1:])) else found
 
     def count(self, kind: Entry | None, first: int, end: int) -> int:
@@ -153,16 +162,24 @@ class Shapes:
 
     def counted(self, kind: Entry | None, first: int, end: int) -> int:
         if kind and kind.tag in WITH_MEMBERS:
-            return sum(self.count(self.type_of(member), max(first - start, 0), min(end - start, size))
-                       for member, start, size in self.touched(kind, first, end)) or 1
+            return (
+                sum(
+                    self.count(self.type_of(member), max(first - start, 0), min(end - start, size))
+                    for member, start, size in self.touched(kind, first, end)
+                )
+                or 1
+            )
         element, size, _ = self.dimensions(kind) if kind and kind.tag == ARRAY else (None, None, None)
         if not size:
             return 1
         number, last = first // size, (end - 1) // size
         if number == last:
             return self.count(element, first - number * size, end - number * size)
-        return (self.count(element, first - number * size, size) + self.count(element, 0, end - last * size) +
-                (last - number - 1) * (self.count(element, 0, size) if last - number > 1 else 0))
+        return (
+            self.count(element, first - number * size, size)
+            + self.count(element, 0, end - last * size)
+            + (last - number - 1) * (self.count(element, 0, size) if last - number > 1 else 0)
+        )
 
     def gathered(self, kind: Entry | None, runs: Iterable[Run], most: int) -> tuple[list[str], int]:
         """Of these runs of bytes so many paths to their parts, and the number of parts."""

@@ -52,8 +52,8 @@ class Elf:
             self.variables = Symbols(self.read_symbols(VARIABLE, OF_THREAD))
 
     def read_sections(self) -> Iterator[tuple[str, Section]]:
-        start, = struct.unpack_from("<Q", self.bytes, 0x28)
-        size, count, names = struct.unpack_from("<HHH", self.bytes, 0x3a)
+        (start,) = struct.unpack_from("<Q", self.bytes, 0x28)
+        size, count, names = struct.unpack_from("<HHH", self.bytes, 0x3A)
         heads = [struct.unpack_from("<IIQQQQIIQQ", self.bytes, start + size * number) for number in range(count)]
         for name, _, flags, address, at, length, *_ in heads:
             yield text_at(self.bytes, heads[names][4] + name), Section(address, bool(flags & COMPRESSED), at, length)
@@ -63,7 +63,7 @@ class Elf:
         if name not in self.sections:
             return b""
         section = self.sections[name]
-        data = self.bytes[section.start:section.start + section.size]
+        data = self.bytes[section.start : section.start + section.size]
         return zlib.decompress(data[24:]) if section.is_compressed else data
 
     def read_symbols(self, *kinds: int) -> Iterator[Symbol]:
@@ -76,8 +76,8 @@ class Elf:
         """Some bytes of the program's code."""
         text = self.sections[".text"]
         inside = address - text.address
-        return self.bytes[text.start + inside:text.start + inside + size] if 0 <= inside <= text.size - size else b""
+        return self.bytes[text.start + inside : text.start + inside + size] if 0 <= inside <= text.size - size else b""
 
 
 def text_at(data: bytes | mmap.mmap, at: int) -> str:
-    return data[at:data.find(b"\0", at)].decode(errors="replace")
+    return data[at : data.find(b"\0", at)].decode(errors="replace")

@@ -13,6 +13,7 @@ class Use(NamedTuple):
     `()`; whether an operator reads and writes it there; whether it may be both, since its address is taken or it is
     handed to a function; whether it is declared there; and whether a statement begins with it, so that nobody uses the
     value."""
+
     text: str
     base: str
     steps: tuple[str, ...]
@@ -23,10 +24,12 @@ class Use(NamedTuple):
     is_first: bool
 
 
-RESERVED = set("alignof break case catch cilk_spawn co_return co_yield const constexpr continue decltype default delete "
-               "do else extern false for goto if inline new nullptr register return sizeof static switch throw true try "
-               "typedef typeof union using virtual void volatile while _Cilk_spawn _Cilk_for cilk_for cilk_sync struct "
-               "enum class".split())
+RESERVED = set(
+    "alignof break case catch cilk_spawn co_return co_yield const constexpr continue decltype default delete "
+    "do else extern false for goto if inline new nullptr register return sizeof static switch throw true try "
+    "typedef typeof union using virtual void volatile while _Cilk_spawn _Cilk_for cilk_for cilk_sync struct "
+    "enum class".split()
+)
 IN_TYPES = {"const", "volatile"}
 STEPS = {"*", "&", "++", "--"}
 ENDS = (")", ",", None)
@@ -48,9 +51,14 @@ class Line:
         return token.text in (")", "]") or (token.kind != "mark" and token.text not in RESERVED)
 
     def uses(self) -> list[Use]:
-        return [self.use(at, token.text) for at, token in enumerate(self.tokens)
-                if token.kind == "word" and token.text not in RESERVED and
-                self.text_at(at - 1) not in (".", "->", "sizeof") and self.text_at(at + 1) != "::"]
+        return [
+            self.use(at, token.text)
+            for at, token in enumerate(self.tokens)
+            if token.kind == "word"
+            and token.text not in RESERVED
+            and self.text_at(at - 1) not in (".", "->", "sizeof")
+            and self.text_at(at + 1) != "::"
+        ]
 
     def postfixes(self, at: int) -> tuple[list[str], int]:
         """The steps from here on, and what follows them."""

@@ -14,4 +14,5 @@ def reason_of(error: BaseException) -> str:
     if isinstance(error, OSError):
         return f"{error.filename}: {error.strerror}" if error.filename else str(error.strerror)
     import traceback
+
     return f"a fault of spbags-run's own:\n{traceback.format_exc()}".rstrip()

@@ -37,9 +37,9 @@ def function_of(position: Position) -> str:
     """What the text calls the function of a position."""
     name = without_arguments(position.function)
     lambdas = list(LAMBDA.finditer(name))
-    if not lambdas or "operator()" not in name[lambdas[-1].start():]:
+    if not lambdas or "operator()" not in name[lambdas[-1].start() :]:
         return name
-    line, outer = line_of_lambda(position), name[:lambdas[0].start()].rstrip(":")
+    line, outer = line_of_lambda(position), name[: lambdas[0].start()].rstrip(":")
     outer = outer.removeprefix("decltype(auto) ").removeprefix("auto ")
     if line:
         return f"lambda at {os.path.basename(position.file)}:{line}"
@@ -57,6 +57,7 @@ def line_of_lambda(position: Position) -> int | None:
 def lambdas_of(file: str) -> list[tuple[int, int]]:
     """The first and the last line of each lambda of a source."""
     from tokens import tokens_of
+
     tokens = tokens_of(source_lines.without_comments("\n".join(source_lines.lines_of(file))))
     ends = ((token, end_of_lambda(tokens, at)) for at, token in enumerate(tokens) if token.text == "[")
     return [(token.line, tokens[end].line) for token, end in ends if end is not None]

@@ -7,8 +7,20 @@ from typing import NamedTuple
 
 from report.dwarf import Entry
 from report.dwarf_types import (
-    ARRAY, CLASS, DECLARATION, INHERITANCE, MEMBER, POINTER, REFERENCE, RIGHT_REFERENCE, STRUCTURE, TYPE, Elements, Part,
-    Run)
+    ARRAY,
+    CLASS,
+    DECLARATION,
+    INHERITANCE,
+    MEMBER,
+    POINTER,
+    REFERENCE,
+    RIGHT_REFERENCE,
+    STRUCTURE,
+    TYPE,
+    Elements,
+    Part,
+    Run,
+)
 from report.expressions import Use, uses_of
 from report.function_names import without_arguments
 from report.variables import Names, readable
@@ -17,6 +29,7 @@ from report.variables import Names, readable
 class Reached(NamedTuple):
     """What an expression leads to by its last pointer: that pointer's text, where that is sure, and its form, the type
     and its name, the path in it, and whether what is there has parts."""
+
     pointer: str | None
     form: str
     kind: Entry
@@ -28,6 +41,7 @@ class Reached(NamedTuple):
 class Line(NamedTuple):
     """A line, which a block's allocation or an access to it is in: the code, the text, and of an access its kind and
     its bytes, if these are known."""
+
     code: int
     text: str
     kind: str | None = None
@@ -37,6 +51,7 @@ class Line(NamedTuple):
 class Made(NamedTuple):
     """What a block is of, and what its parts are named by, in which form: `p->x`, `p[1].x`, or `x` alone and
     `particle.x`."""
+
     kind: Entry
     name: str
     form: str
@@ -48,7 +63,7 @@ POINTED, INDEXED, DIRECT = "pointed", "indexed", "direct"
 CLASSES, REFERENCES = {CLASS, STRUCTURE}, {REFERENCE, RIGHT_REFERENCE}
 # Classes that lead to memory of the heap as a pointer does, by the beginning of their names and the operators for that;
 # and the parameter of these templates that is the type there.
-LEADING, PARAMETER, PARAMETER_NAME = (("vector<", ("[]",)), ("unique_ptr<", ("*", "->"))), 0x2f, "_Tp"
+LEADING, PARAMETER, PARAMETER_NAME = (("vector<", ("[]",)), ("unique_ptr<", ("*", "->"))), 0x2F, "_Tp"
 # The class of the library that a function is of.
 MEMBER_OF = re.compile(r"\bstd::(?:__cxx11::)?(\w+)<[^<>]*>::")
 # Bytes that C++ may put before an array of objects.
@@ -63,8 +78,11 @@ class Expressions:
 
     def reached(self, use: Use, code: int) -> Reached | None:
         """What this leads to by its last pointer, in the function with this code; None where that isn't known."""
-        return self.only(found._replace(has_parts=kind.tag in CLASSES or kind.tag == ARRAY)
-                         for kind, found, _ in self.followed(use, code) if kind and found)
+        return self.only(
+            found._replace(has_parts=kind.tag in CLASSES or kind.tag == ARRAY)
+            for kind, found, _ in self.followed(use, code)
+            if kind and found
+        )
 
     def assigned(self, use: Use, code: int) -> Reached | None:
         """What a pointer leads to that is given a value here, or a vector that is named."""
@@ -179,8 +197,9 @@ class HeapTypes:
         self.names, self.shapes, self.expressions = names, names.shapes, Expressions(names)
 
     @readable
-    def named(self, offset: int, size: int, allocations: Sequence[Line],
-              accesses: Sequence[Line]) -> tuple[Made, str] | None:
+    def named(
+        self, offset: int, size: int, allocations: Sequence[Line], accesses: Sequence[Line]
+    ) -> tuple[Made, str] | None:
         """What a block of this size is of, and what the part at this offset is called; by the lines that lead to its
         allocation, and by those of the two accesses."""
         made = self.made(offset, size, allocations, accesses)
@@ -256,14 +275,21 @@ class HeapTypes:
             found = [one for one in (self.expressions.assigned(use, line.code) for use in uses_of(line.text)) if one]
             if found:
                 reached = self.expressions.only(found)
-                return reached if reached and self.has_all(reached.kind, size, line) and all(
-                    self.part_at(reached.kind, offset, size, access.width) for access in accesses) else None
+                return (
+                    reached
+                    if reached
+                    and self.has_all(reached.kind, size, line)
+                    and all(self.part_at(reached.kind, offset, size, access.width) for access in accesses)
+                    else None
+                )
         return None
 
     def has_all(self, kind: Entry, size: int, line: Line) -> bool:
         """Whether a block that this line allocates has elements of this type alone."""
         element = self.shapes.size(kind) or 0
-        may_have_cookie = kind.tag in CLASSES and element > 0 and COOKIE % element == 0 and re.search(r"\bnew\b", line.text)
+        may_have_cookie = (
+            kind.tag in CLASSES and element > 0 and COOKIE % element == 0 and re.search(r"\bnew\b", line.text)
+        )
         return element > 0 and size % element == 0 and not may_have_cookie
 
 

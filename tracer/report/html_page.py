@@ -26,14 +26,22 @@ AROUND = 10
 # So many pairs are shown whole, and sources up to so many bytes have colours: a browser opens thousands of pairs at
 # once.
 WHOLE, MOST = 200, 1 << 19
-STYLES = ((token.Comment.Preproc, "p"), (token.Comment, "c"), (token.String, "s"), (token.Keyword, "k"),
-          (token.Number, "n"))
+STYLES = (
+    (token.Comment.Preproc, "p"),
+    (token.Comment, "c"),
+    (token.String, "s"),
+    (token.Keyword, "k"),
+    (token.Number, "n"),
+)
 # The drawing, in units of a viewBox: what a column and a box take, and how many boxes a column has at most, at its
 # beginning and at its end.
 COLUMN, BOX, STEP, BOXES, LETTERS = 330, 310, 56, 3, 40
 # The kind of a box by the label of a row, and what its code does; an access does what its label says.
-DOES = {stack_rows.LABELS["spawn"]: ("spawn", "spawns"), stack_rows.LABELS["call"]: ("call", "calls"),
-        stack_rows.LEFT_OUT: ("rest", "")}
+DOES = {
+    stack_rows.LABELS["spawn"]: ("spawn", "spawns"),
+    stack_rows.LABELS["call"]: ("call", "calls"),
+    stack_rows.LEFT_OUT: ("rest", ""),
+}
 
 
 # A place, and the number of its source below the pairs. A pair in the table, and where it leads: to the pair as a
@@ -61,6 +69,7 @@ class Pair(NamedTuple):
 
 
 # ---- Sources ----
+
 
 def pieces_of(file: str) -> Iterator[str | None]:
     """The tokens of a source, each as HTML, and between lines None."""
@@ -105,11 +114,14 @@ def excerpt_of(lead: Position, name: str = "") -> Excerpt:
 
 def excerpts_of(pair: pairs.Pair) -> list[Excerpt]:
     """Those of both accesses, or one where both stand on one line."""
-    return [excerpt_of(lead, " and ".join(text.kind_of(side.kind, pair) for side in sides))
-            for lead, sides in groupby(pair.sides, key=lambda side: side.lead())]
+    return [
+        excerpt_of(lead, " and ".join(text.kind_of(side.kind, pair) for side in sides))
+        for lead, sides in groupby(pair.sides, key=lambda side: side.lead())
+    ]
 
 
 # ---- The way from where both accesses meet ----
+
 
 def column_of(stack: list[Frame]) -> list[stack_rows.Row]:
     """The rows of a stack from the outermost on, without the system's functions, and in the middle without some."""
@@ -145,7 +157,7 @@ def top_of(pair: pairs.Pair, outermost: list[Position]) -> Box | None:
 def drawing_of(pair: pairs.Pair, stacks: list[list[Frame]]) -> Drawing | None:
     """Two columns of boxes below one, as far as both stacks aren't alike."""
     tail = stack_rows.common_tail(*stacks)
-    own = [stack[:len(stack) - tail] for stack in stacks]
+    own = [stack[: len(stack) - tail] for stack in stacks]
     top = top_of(pair, [stack[-1].position for stack in own])
     if not top:
         return None
@@ -156,13 +168,21 @@ def drawing_of(pair: pairs.Pair, stacks: list[list[Frame]]) -> Drawing | None:
 
 # ---- The page ----
 
+
 def pair_of(number: int, pair: pairs.Pair, unit: int) -> Pair:
     stacks = text.stacks_of(pair)
-    return Pair(number, pair.races, text.headline_kinds(pair), text.variable_line(pair.variable, unit),
-                text.order_rows(pair), excerpts_of(pair),
-                [(stack[0].role, stack_rows.access_rows(stack, side.lead())) for stack, side in zip(stacks, pair.sides)],
-                stack_rows.allocation_rows(pair.variable.stack) if pair.variable.stack else [],
-                drawing_of(pair, stacks), pair.is_guarded())
+    return Pair(
+        number,
+        pair.races,
+        text.headline_kinds(pair),
+        text.variable_line(pair.variable, unit),
+        text.order_rows(pair),
+        excerpts_of(pair),
+        [(stack[0].role, stack_rows.access_rows(stack, side.lead())) for stack, side in zip(stacks, pair.sides)],
+        stack_rows.allocation_rows(pair.variable.stack) if pair.variable.stack else [],
+        drawing_of(pair, stacks),
+        pair.is_guarded(),
+    )
 
 
 class Table:
@@ -174,14 +194,20 @@ class Table:
         self.groups: list[tuple[str, list[Row]]] = []
         count = 0
         for alike in text.by_variable(report.pairs):
-            self.groups.append((text.heading(alike), [self.row(number, pair) for number, pair in enumerate(alike, count + 1)]))
+            self.groups.append(
+                (text.heading(alike), [self.row(number, pair) for number, pair in enumerate(alike, count + 1)])
+            )
             count += len(alike)
 
     def row(self, number: int, pair: pairs.Pair) -> Row:
         leads = [side.lead() for side in pair.sides]
         excerpts = [None if number <= WHOLE else self.excerpts.setdefault(lead, len(self.excerpts)) for lead in leads]
-        return Row(number, number <= WHOLE, [Lead(stack_rows.place(lead), at) for lead, at in zip(leads, excerpts)],
-                   text.headline_kinds(pair))
+        return Row(
+            number,
+            number <= WHOLE,
+            [Lead(stack_rows.place(lead), at) for lead, at in zip(leads, excerpts)],
+            text.headline_kinds(pair),
+        )
 
 
 def ending_of(ended: Ended) -> str:
@@ -193,19 +219,36 @@ def meaning_of(report: Report) -> str:
     """Of the status, whatever number it is."""
     if report.pairs or report.not_shown.pairs:
         return "the report has races"
-    return "no race was found" + (", but not everything was seen or modelled" if text.left_out_lines(report) else
-                                  ", and everything was seen and modelled")
+    return "no race was found" + (
+        ", but not everything was seen or modelled"
+        if text.left_out_lines(report)
+        else ", and everything was seen and modelled"
+    )
 
 
 def page_of(report: Report, status: int) -> str:
     """The text of the page."""
     table = Table(report)
-    environment = jinja2.Environment(loader=jinja2.FileSystemLoader(HERE), autoescape=True, trim_blocks=True,
-                                     lstrip_blocks=True, undefined=jinja2.StrictUndefined)
-    return str(environment.get_template(TEMPLATE).render(
-        program=os.path.basename(report.command[0]), command=shlex.join(report.command), report=report,
-        last_line=text.last_line(report), ended=ending_of(report.ended), status=status, meaning=meaning_of(report),
-        unseen=text.left_out_lines(report), notes=[*report.notes, *map(text.suppression_line, report.suppressions)],
-        groups=table.groups,
-        pairs=[pair_of(number, pair, report.unit) for number, pair in enumerate(report.pairs[:WHOLE], 1)],
-        excerpts=[excerpt_of(lead) for lead in table.excerpts]))
+    environment = jinja2.Environment(
+        loader=jinja2.FileSystemLoader(HERE),
+        autoescape=True,
+        trim_blocks=True,
+        lstrip_blocks=True,
+        undefined=jinja2.StrictUndefined,
+    )
+    return str(
+        environment.get_template(TEMPLATE).render(
+            program=os.path.basename(report.command[0]),
+            command=shlex.join(report.command),
+            report=report,
+            last_line=text.last_line(report),
+            ended=ending_of(report.ended),
+            status=status,
+            meaning=meaning_of(report),
+            unseen=text.left_out_lines(report),
+            notes=[*report.notes, *map(text.suppression_line, report.suppressions)],
+            groups=table.groups,
+            pairs=[pair_of(number, pair, report.unit) for number, pair in enumerate(report.pairs[:WHOLE], 1)],
+            excerpts=[excerpt_of(lead) for lead in table.excerpts],
+        )
+    )

@@ -32,7 +32,9 @@ class Found:
             pass
         races = races_of(run.lines(keepends=True))
         if self.places:
-            self.places.need(access.place for race in races for access in race.accesses if access.place <= self.places.count)
+            self.places.need(
+                access.place for race in races for access in race.accesses if access.place <= self.places.count
+            )
         self.ordered = [] if streams else [race for race in races if self.is_of_order(race, unit)]
         ordered = set(self.ordered)
         self.races = [race for race in races if race not in ordered]
@@ -61,7 +63,9 @@ class Found:
     def has_course_of(self, first: "Found", divided: set[int]) -> bool:
         """Whether this run did the same as that one, whose units of these locations it has divided."""
         units, course = {unit for unit in units_of(self.races) if unit < FIRST_FRESH}, self.run.words("course")
-        return bool(course) and course == first.run.words("course") and units - divided == units_of(first.races) - divided
+        return (
+            bool(course) and course == first.run.words("course") and units - divided == units_of(first.races) - divided
+        )
 
 
 class Looks:
@@ -102,8 +106,10 @@ class Looks:
         if behind:
             self.look(behind)
         if len(self.pairs) > before:
-            self.notes.append(f"{text.many(len(self.pairs) - before, 'pair')} of lines came of one more run, in which a "
-                              "task that a taskwait waits for is a part of its parent. A location may count in both")
+            self.notes.append(
+                f"{text.many(len(self.pairs) - before, 'pair')} of lines came of one more run, in which a "
+                "task that a taskwait waits for is a part of its parent. A location may count in both"
+            )
         return behind is not None and behind.run.is_whole() and not behind.run.waits
 
     def look(self, found: Found) -> None:
@@ -125,14 +131,18 @@ class Looks:
         first, *others = ordered
         lines = " and ".join(place(side.lead()) for side in first.sides)
         more = f", and {text.many(len(others), 'more pair')}" if others else ""
-        self.notes.append(f"the order in which children use {text.whole_name(first.variable)} isn't determined: "
-                          f"{lines}{more}. --streams reports this")
+        self.notes.append(
+            f"the order in which children use {text.whole_name(first.variable)} isn't determined: "
+            f"{lines}{more}. --streams reports this"
+        )
 
     def tell_apart(self, first: Found, narrow: set[int], differs: bool) -> Found:
         """Where races of these units may be of neighbours: what a run finds that tells their bytes apart, unless
         another one was unlike the first."""
         where = f"{text.many(len(narrow), 'location')}, in units of {self.unit} bytes"
-        reason = "isn't made, as --one-run says" if self.chosen.one_run else "would take another path" if differs else None
+        reason = (
+            "isn't made, as --one-run says" if self.chosen.one_run else "would take another path" if differs else None
+        )
         again = first
         try:
             if not reason:
@@ -146,8 +156,10 @@ class Looks:
             return first
         left = narrow - units_of(again.races)
         if left:
-            self.notes.append(f"{text.many(len(left), 'location')} {'is' if len(left) == 1 else 'are'} left out: only "
-                              f"neighbours meet there in a unit of {self.unit} bytes")
+            self.notes.append(
+                f"{text.many(len(left), 'location')} {'is' if len(left) == 1 else 'are'} left out: only "
+                f"neighbours meet there in a unit of {self.unit} bytes"
+            )
         return again
 
     def notes_of(self, found: Found) -> Notes | None:
@@ -176,8 +188,10 @@ class Looks:
             return
         if not self.astray and run.is_whole():
             self.differs = True
-            self.notes.append("the second run did something else than the first, though not at the accesses of a race: "
-                              "their lines and stacks are the second's")
+            self.notes.append(
+                "the second run did something else than the first, though not at the accesses of a race: "
+                "their lines and stacks are the second's"
+            )
         if first[2] != other[2]:
             notes.forget_guards()
 
@@ -200,7 +214,9 @@ class Looks:
         lost = [race for race in rest if race.location not in had]
         places = start.places if start else found.places
         self.runner.progress.begin("looking up source lines")
-        known = [by_sites(*group) for group in ((again, places), (lost, found.places), (beside, places), (ordered, places))]
+        known = [
+            by_sites(*group) for group in ((again, places), (lost, found.places), (beside, places), (ordered, places))
+        ]
         program = Program(self.runner.words[0], self.unit, notes, known)
         self.has_dwarf = program.names.has_any()
         earlier = {pair.key() for pair in self.pairs}
@@ -224,31 +240,41 @@ class Looks:
     def tell_unplaced(self, races: list[Race], places: Places | None) -> None:
         many = sum(not all(places.site(access.place) for access in race.accesses) for race in races) if places else 0
         if many > 0:
-            self.notes.append(f"{text.many(many, 'race')} {'has' if many == 1 else 'have'} no lines: there was no room for "
-                              "all places of the first run")
+            self.notes.append(
+                f"{text.many(many, 'race')} {'has' if many == 1 else 'have'} no lines: there was no room for "
+                "all places of the first run"
+            )
 
     def tell_rest(self, again: int, beside: int, lost: int) -> None:
         """Which races have no stacks, where another run took another path, and whose lines they have."""
         if self.astray:
-            self.notes.append(f"the second run took another path: {self.astray}; lines without stacks: "
-                              f"{self.without_stacks} of {text.many(self.races, 'race')}")
+            self.notes.append(
+                f"the second run took another path: {self.astray}; lines without stacks: "
+                f"{self.without_stacks} of {text.many(self.races, 'race')}"
+            )
         if again + beside > 0:
-            self.notes.append(f"one more run looked from its start: {text.many(again, 'race')} of the first run "
-                              f"{'has' if again == 1 else 'have'} its lines, and {text.many(beside, 'more race')} "
-                              f"{'is' if beside == 1 else 'are'} its own")
+            self.notes.append(
+                f"one more run looked from its start: {text.many(again, 'race')} of the first run "
+                f"{'has' if again == 1 else 'have'} its lines, and {text.many(beside, 'more race')} "
+                f"{'is' if beside == 1 else 'are'} its own"
+            )
         if lost > 0:
-            self.notes.append(f"{text.many(lost, 'race')} of the first run came in no later one, and "
-                              f"{'has' if lost == 1 else 'have'} no lines: this program can't be repeated. Remove what a "
-                              "run leaves, such as files, and fix what comes of time or of random numbers; or use "
-                              "--one-run, by which each race has its lines")
+            self.notes.append(
+                f"{text.many(lost, 'race')} of the first run came in no later one, and "
+                f"{'has' if lost == 1 else 'have'} no lines: this program can't be repeated. Remove what a "
+                "run leaves, such as files, and fix what comes of time or of random numbers; or use "
+                "--one-run, by which each race has its lines"
+            )
 
     def hints(self) -> list[str]:
         """What would make the report better."""
         if not self.pairs:
             return []
         if not self.has_dwarf:
-            return ["the program has no debug information, so lines and variables aren't known: don't strip it, and don't "
-                    "link it with -s"]
+            return [
+                "the program has no debug information, so lines and variables aren't known: don't strip it, and don't "
+                "link it with -s"
+            ]
         return newer_hint(self.newer())
 
     def newer(self) -> list[str]:

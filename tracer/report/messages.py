@@ -61,11 +61,13 @@ def with_lines(program: str, texts: list[str]) -> list[str]:
     def line_of(match: re.Match[str]) -> str:
         position = positions.get(int(match[1], 16) + 1, [source_lines.UNKNOWN])[-1]
         return f"{position.file}:{position.line}" if position.line > 0 else f"address {match[1]}"
+
     return list(dict.fromkeys(CODE.sub(line_of, text) for text in texts))
 
 
 class Said(threading.Thread):
     """The records, which are read as they come. Those that can't wait for the report go to a function at once."""
+
     END = "\nend\n"
 
     def __init__(self, tell: Callable[[str, list[int]], None]) -> None:

@@ -19,6 +19,7 @@ if TYPE_CHECKING:
 @dataclass
 class Side:
     """One access of a race, and the stack, from the access to main."""
+
     kind: str
     atomic: bool
     stack: list[Frame]
@@ -36,6 +37,7 @@ class Variable:
     """What the location is: a `global`, a `local` of a function, something of the `stack`, a block of the `heap`, a
     `stream`, or other `memory`. A variable or a block has a byte by its offset; its part with that is an expression of
     C, and where that is no scalar, the rest is the offset in it and its size."""
+
     kind: str
     function: str | None = None
     name: str | None = None
@@ -83,6 +85,7 @@ class Variable:
 class MissingSync(NamedTuple):
     """The function in which both accesses meet: where it spawns the first, where it goes on to the second without a
     sync, and where it waits then."""
+
     function: str
     construct: str
     spawn: Position
@@ -94,6 +97,7 @@ class MissingSync(NamedTuple):
 class Siblings(NamedTuple):
     """The construct of OpenMP or of another library whose children race, and of its shares the first and the last
     iteration or section of each."""
+
     construct: str
     position: Position
     first: list[int] | None = None
@@ -103,6 +107,7 @@ class Siblings(NamedTuple):
 @dataclass(eq=False)
 class Pair:
     """Two source positions, and the first of their races."""
+
     races: int
     location: int
     sides: list[Side]
@@ -182,4 +187,5 @@ def in_order(pairs: list[Pair]) -> list[Pair]:
     def order(pair: Pair) -> tuple[Any, ...]:
         identity = pair.identity()
         return guarded[identity], -races[identity], identity, pair.is_guarded(), -pair.races, pair.key()
+
     return sorted(pairs, key=order)

@@ -35,8 +35,10 @@ class Pieces:
 
     def found(self) -> list[tuple[int, int, Variable, list[Run]]]:
         """Of each variable the location of the first race, the number of races, and the runs of its bytes."""
-        return [(location, sum(rows) + len(single), variable, runs) for location, rows, single, variable, runs in
-                self.pieces.values()]
+        return [
+            (location, sum(rows) + len(single), variable, runs)
+            for location, rows, single, variable, runs in self.pieces.values()
+        ]
 
 
 class Program:
@@ -102,15 +104,28 @@ class Program:
         barrier = missing_barrier(siblings, sides)
         siblings = None if barrier else siblings
         for location, races, variable, runs, is_borrowed in self.pieces(noted):
-            yield Pair(races, location, sides, named_by(noted.guard, variable),
-                       barrier or self.missing_sync(noted, sides), self.guard(noted.guard, variable), siblings,
-                       advice.of_openmp(noted, siblings, variable), noted.is_narrow, is_borrowed, noted.reducer,
-                       self.guard_name(noted.before), runs)
+            yield Pair(
+                races,
+                location,
+                sides,
+                named_by(noted.guard, variable),
+                barrier or self.missing_sync(noted, sides),
+                self.guard(noted.guard, variable),
+                siblings,
+                advice.of_openmp(noted, siblings, variable),
+                noted.is_narrow,
+                is_borrowed,
+                noted.reducer,
+                self.guard_name(noted.before),
+                runs,
+            )
 
     def pairs_without_stacks(self, group: Sites) -> Iterator[Pair]:
         """The same of races of which only places are known."""
-        sides = [Side(kind, is_atomic, self.stack(kind, [f"{code:x}"])) for kind, code, is_atomic in
-                 zip(group.kinds, group.codes(), group.is_atomic())]
+        sides = [
+            Side(kind, is_atomic, self.stack(kind, [f"{code:x}"]))
+            for kind, code, is_atomic in zip(group.kinds, group.codes(), group.is_atomic())
+        ]
         pieces, guard = Pieces(), common_guard(group.sites)
         for location in group.locations:
             unit = checker_answers.unit_of(location)
@@ -119,8 +134,16 @@ class Program:
             size = self.unit if location < checker_answers.FIRST_BYTE else 1
             pieces.add(unit, 1, variable, (variable.offset, variable.offset + size))
         for location, races, variable, runs in pieces.found():
-            yield Pair(races, location, sides, named_by(guard, variable), None, self.guard(guard, variable),
-                       neighbours=group.is_narrow(), runs=runs)
+            yield Pair(
+                races,
+                location,
+                sides,
+                named_by(guard, variable),
+                None,
+                self.guard(guard, variable),
+                neighbours=group.is_narrow(),
+                runs=runs,
+            )
 
     def complete(self, pair: Pair) -> Pair:
         """With the parts that race, and with what Cilk has for the pair."""
@@ -129,7 +152,7 @@ class Program:
             start = variable.start() - (self.thread if variable.thread_local else 0)
             part = self.names.at(start, variable.offset, bool(variable.thread_local))
             if part:
-                variable.expression, variable.rest = variable.name + part.expression[len(part.name):], part.rest
+                variable.expression, variable.rest = variable.name + part.expression[len(part.name) :], part.rest
                 variable.whole = part.entry
         self.name_parts(pair)
         if advice.is_of_cilk(pair):
@@ -172,18 +195,30 @@ class Program:
             first, units = variable.offset, 1
             if variable.size is not None:
                 units = min(-(-(variable.size - first) // self.unit), stretch.units - done)
-            size = 1 if stretch.location >= checker_answers.FIRST_BYTE else units * self.unit - stretch.address % self.unit
+            size = (
+                1 if stretch.location >= checker_answers.FIRST_BYTE else units * self.unit - stretch.address % self.unit
+            )
             yield checker_answers.unit_of(stretch.location) + 2 * done, units, variable, (first, first + size)
             done += units
 
     def variable(self, stretch: Stretch, behind: int) -> Variable:
         """What stands so many bytes behind the first address."""
-        for code, offset, find in ((stretch.data_code, stretch.data_offset, self.names.in_data),
-                                   (stretch.code, stretch.offset, self.names.in_frame)):
+        for code, offset, find in (
+            (stretch.data_code, stretch.data_offset, self.names.in_data),
+            (stretch.code, stretch.offset, self.names.in_frame),
+        ):
             found = find(code - 1, offset + behind, stretch.address + behind) if code else None
             if found:
-                return Variable("local", self.positions[code][-1].function, found.name, found.offset, found.size,
-                                expression=found.expression, rest=found.rest, whole=found.entry)
+                return Variable(
+                    "local",
+                    self.positions[code][-1].function,
+                    found.name,
+                    found.offset,
+                    found.size,
+                    expression=found.expression,
+                    rest=found.rest,
+                    whole=found.entry,
+                )
         if stretch.code:
             return Variable("local", self.positions[stretch.code][-1].function)
         return self.named(stretch.address + behind)
@@ -216,8 +251,13 @@ class Program:
         offset, lines = noted.address - block.address, [self.line_of(side.kind, side.stack) for side in noted.sides]
         width, other = (line.width for line in lines)
         fits = width and width == other and block.size % width == offset % width == 0
-        variable = Variable("heap", offset=offset, size=block.size, element=width if fits else None,
-                            stack=self.stack("allocation", block.stack))
+        variable = Variable(
+            "heap",
+            offset=offset,
+            size=block.size,
+            element=width if fits else None,
+            stack=self.stack("allocation", block.stack),
+        )
         allocations = [Line(code - 1, source_lines.text_of(position)) for code, position in self.lines_of(block.stack)]
         found = self.heap_types.named(offset, block.size, allocations, lines)
         if found:
@@ -262,8 +302,14 @@ class Program:
         waits = source_lines.leading(self.positions[noted.waits.code]) if noted.waits else None
         if waits and (waits.function != function or (ends and child)):
             waits = None
-        return MissingSync(function, child.of if child else "spawn", spawn.position, continues_at.position, waits,
-                           ends and child is None)
+        return MissingSync(
+            function,
+            child.of if child else "spawn",
+            spawn.position,
+            continues_at.position,
+            waits,
+            ends and child is None,
+        )
 
     def siblings(self, noted: Noted) -> Siblings | None:
         """Two threads of one region, two tasks from one place, or two shares of one loop or of the same sections."""
@@ -289,7 +335,7 @@ def missing_barrier(siblings: Siblings | None, sides: list[Side]) -> MissingSync
 def spawn_inside(side: Side, region: Position) -> Position | None:
     """The outermost spawn of a stack inside a region, or None."""
     spawns = [frame.position for frame in side.stack if frame.role == "spawn"]
-    inside = spawns[:-1 - spawns[::-1].index(region)] if region in spawns else []
+    inside = spawns[: -1 - spawns[::-1].index(region)] if region in spawns else []
     return inside[-1] if inside else None
 
 

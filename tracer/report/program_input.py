@@ -9,12 +9,14 @@ from typing import BinaryIO
 def disk_file() -> BinaryIO:
     """A file without a name."""
     import tempfile
+
     return tempfile.TemporaryFile(buffering=0)  # type: ignore[return-value]
 
 
 class Input:
     """What comes through a pipe is kept in a file without a name: as a whole where it ends soon, and else while the
     first run reads it."""
+
     PATIENCE = 0.3
     MOST = 1 << 26
     PIECE = 1 << 16
@@ -86,4 +88,4 @@ class Input:
 
 def write_all(to: int, piece: bytes) -> None:
     while piece:
-        piece = piece[os.write(to, piece):]
+        piece = piece[os.write(to, piece) :]

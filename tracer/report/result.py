@@ -14,8 +14,17 @@ if TYPE_CHECKING:
 
 VERSION = 3
 # Of Cilk, of oneTBB and of C++: what a child is one of, where a report suggests nothing of OpenMP.
-NO_OPENMP = {"cilk_for", "parallel_for", "parallel_for_each", "parallel_reduce", "parallel_scan", "parallel_invoke",
-             "parallel_sort", "task_group", "algorithm"}
+NO_OPENMP = {
+    "cilk_for",
+    "parallel_for",
+    "parallel_for_each",
+    "parallel_reduce",
+    "parallel_scan",
+    "parallel_invoke",
+    "parallel_sort",
+    "task_group",
+    "algorithm",
+}
 # The name of what both accesses hold, where that isn't known.
 UNKNOWN_GUARD = "unknown"
 # What stands for a guard where each thread has the variable for itself.
@@ -29,6 +38,7 @@ class Count(NamedTuple):
 
 class Ended(NamedTuple):
     """How the program ended, and whether the run was whole."""
+
     status: int | None
     signal: int | None
     complete: bool
@@ -37,6 +47,7 @@ class Ended(NamedTuple):
 class Report(NamedTuple):
     """What a run of a program came to: the pairs that are shown, and how many more there are, each with its races. How
     many spawns and accesses there were isn't known of a run without the detector inside."""
+
     command: list[str]
     unit: int
     ended: Ended

@@ -15,6 +15,7 @@ STREAM_BYTES = 8
 
 class Access(NamedTuple):
     """The kind of an access, and its stack in words: code addresses, with `spawn` behind one that spawned."""
+
     kind: str
     atomic: bool
     stack: list[str]
@@ -24,6 +25,7 @@ class Stretch(NamedTuple):
     """So many units from an address on. Of the stack there is the code of the function whose frame it is in, and how
     far from the frame's end; and of the function that OpenMP hands data there, and how far in them. The stacks may be
     borrowed from a race of another variable."""
+
     location: int
     units: int
     address: int
@@ -37,6 +39,7 @@ class Stretch(NamedTuple):
 class Child(NamedTuple):
     """A task, or a share of a loop or of sections: where it is made, and the counter in its first and its last
     iteration."""
+
     of: str
     code: int
     first: int
@@ -45,12 +48,14 @@ class Child(NamedTuple):
 
 class Wait(NamedTuple):
     """Where a function waits for its children, and whether it ends with that."""
+
     code: int
     ends: bool
 
 
 class Block(NamedTuple):
     """A block of the heap, and the stack of its allocation."""
+
     address: int
     size: int
     stack: list[str]
@@ -59,6 +64,7 @@ class Block(NamedTuple):
 @dataclass
 class Noted:
     """A pair of code addresses as the run noted it."""
+
     races: int
     location: int
     address: int
@@ -102,9 +108,12 @@ class Noted:
     def codes(self) -> list[int]:
         """All code addresses in it."""
         stacks = [*(side.stack for side in self.sides), *([self.block.stack] if self.block else [])]
-        return [*(int(word, 16) for stack in stacks for word in stack if word != "spawn"),
-                *([self.waits.code] if self.waits else []), *(child.code for child in self.children if child),
-                *(code for at in self.stretches for code in (at.code, at.data_code) if code)]
+        return [
+            *(int(word, 16) for stack in stacks for word in stack if word != "spawn"),
+            *([self.waits.code] if self.waits else []),
+            *(child.code for child in self.children if child),
+            *(code for at in self.stretches for code in (at.code, at.data_code) if code),
+        ]
 
 
 def is_stream(guard: Guard | None, address: int) -> bool:
@@ -131,9 +140,18 @@ class Notes:
             case "pair", races, location, address, meeting, narrow:
                 self.pairs.append(Noted(int(races), int(location), int(address, 16), int(meeting), narrow == "1"))
             case "at" | "other" as name, pair, location, units, address, code, offset, data_code, data_offset:
-                self.pairs[int(pair) - 1].stretches.append(Stretch(
-                    int(location), int(units), int(address, 16), int(code, 16), int(offset), int(data_code, 16),
-                    int(data_offset), name == "other"))
+                self.pairs[int(pair) - 1].stretches.append(
+                    Stretch(
+                        int(location),
+                        int(units),
+                        int(address, 16),
+                        int(code, 16),
+                        int(offset),
+                        int(data_code, 16),
+                        int(data_offset),
+                        name == "other",
+                    )
+                )
             case "held", pair, first, size:
                 self.pairs[int(pair) - 1].held.append((int(first), int(first) + int(size)))
             case "astray", place, *found:

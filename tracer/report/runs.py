@@ -35,8 +35,10 @@ def checker() -> str:
     """The program `spbags`, which SPBAGS names, or else the one that is built or installed here."""
     named = os.environ.get("SPBAGS") or installation.PROGRAM
     if not os.access(named, os.X_OK) or not os.path.isfile(named):
-        raise Failure("spbags isn't built: run ./build in its repository, which takes some ten minutes, or set SPBAGS to "
-                      "the program")
+        raise Failure(
+            "spbags isn't built: run ./build in its repository, which takes some ten minutes, or set SPBAGS to "
+            "the program"
+        )
     return os.path.realpath(named)
 
 
@@ -61,8 +63,11 @@ AWAITED = {signal.SIGCHLD, signal.SIGINT, signal.SIGTERM}
 Process = subprocess.Popen[bytes]
 
 
-def wait_for(process: Process, seconds: float | None = None,
-             hears: Callable[[signal.struct_siginfo], bool] = lambda came: came.si_code <= 0) -> int | None:
+def wait_for(
+    process: Process,
+    seconds: float | None = None,
+    hears: Callable[[signal.struct_siginfo], bool] = lambda came: came.si_code <= 0,
+) -> int | None:
     """Waits until the process has ended, which gives None; until such a signal has come, which gives its number; or, as
     0, until the time is over."""
     end = time.monotonic() + (threading.TIMEOUT_MAX if seconds is None else seconds)
@@ -80,11 +85,12 @@ def prepare_program(mask: Iterable[int]) -> None:
     """In the program's process: signals end it, and addresses are alike in all runs, as far as the system lets us."""
     signal.signal(signal.SIGINT, signal.SIG_DFL)
     signal.pthread_sigmask(signal.SIG_SETMASK, mask)
-    PERSONALITY(ctypes.c_ulong(PERSONALITY(ctypes.c_ulong(0xffffffff)) | ADDR_NO_RANDOMIZE))
+    PERSONALITY(ctypes.c_ulong(PERSONALITY(ctypes.c_ulong(0xFFFFFFFF)) | ADDR_NO_RANDOMIZE))
 
 
 class Unseen(NamedTuple):
     """A function that nothing is known of, the library or the file that has it, and how often it was called."""
+
     function: str
     library: str
     calls: int
@@ -107,8 +113,9 @@ class Run:
         self.closed = [record.text for record in records if record.name == "fault" and record.words == ["closed"]]
         self.faults = with_lines(program, texts_of(records, "fault"))
         # What wasn't seen or modelled, in sentences and functions; and of which races some may be none.
-        self.incomplete, self.waits, self.seeming = (with_lines(program, texts_of(records, name))
-                                                     for name in ("incomplete", "waits", "seeming"))
+        self.incomplete, self.waits, self.seeming = (
+            with_lines(program, texts_of(records, name)) for name in ("incomplete", "waits", "seeming")
+        )
         self.unseen = unseen_of(records)
 
     def has_races(self) -> bool:
@@ -163,13 +170,22 @@ def stops_of(races: Iterable[Race]) -> BinaryIO:
 
 class Runner:
     """Runs one program, again and again with the same words and the same input."""
+
     ROOM = 1 << 14
     # What ends a program that others don't end: the hooks' own signal, and the system's; and how many seconds it has.
     OTHER_ENDS = ((63, 60), (signal.SIGKILL, None))
     PATIENCE = 5
 
-    def __init__(self, words: list[str], checking: list[str], settings: dict[str, str], output: IO[str] | None,
-                 seconds: float | None, tell: Callable[[str, list[int]], None], progress: Progress) -> None:
+    def __init__(
+        self,
+        words: list[str],
+        checking: list[str],
+        settings: dict[str, str],
+        output: IO[str] | None,
+        seconds: float | None,
+        tell: Callable[[str, list[int]], None],
+        progress: Progress,
+    ) -> None:
         """The program may run for so many seconds, or for ever; its lines that can't wait go to the function `tell`."""
         program, self.is_inside = traceable(words[0])
         self.words, self.settings, self.output = [program, *words[1:]], settings, output
@@ -191,9 +207,14 @@ class Runner:
         given = self.input.begin()
         try:
             program = subprocess.Popen(
-                self.words, stdin=given, stdout=subprocess.DEVNULL if silent else self.output,
-                stderr=subprocess.DEVNULL if silent else None, pass_fds=(said.into, *files.values()),
-                env=self.environment(said, files, settings), preexec_fn=lambda: prepare_program(self.mask))
+                self.words,
+                stdin=given,
+                stdout=subprocess.DEVNULL if silent else self.output,
+                stderr=subprocess.DEVNULL if silent else None,
+                pass_fds=(said.into, *files.values()),
+                env=self.environment(said, files, settings),
+                preexec_fn=lambda: prepare_program(self.mask),
+            )
         except OSError as error:
             raise Failure(f"{self.words[0]}: {error.strerror}") from error
         finally:
@@ -204,9 +225,14 @@ class Runner:
     def environment(self, said: Said, files: dict[str, int], settings: dict[str, str]) -> dict[str, str]:
         """All runs have as long an environment, of as many variables: the program's words lie before it, and setenv
         makes a copy. The program's own come first, so that they lie at the same addresses."""
-        ours = {"SPBAGS_MAX_BYTES": os.environ.get("SPBAGS_MAX_BYTES", ""), **dict.fromkeys(OURS, ""), **self.settings,
-                **settings, "SPBAGS_SAYS": f"fd:{said.into}",
-                **{variable: f"fd:{file}" for variable, file in files.items()}}
+        ours = {
+            "SPBAGS_MAX_BYTES": os.environ.get("SPBAGS_MAX_BYTES", ""),
+            **dict.fromkeys(OURS, ""),
+            **self.settings,
+            **settings,
+            "SPBAGS_SAYS": f"fd:{said.into}",
+            **{variable: f"fd:{file}" for variable, file in files.items()},
+        }
         wanted = {**{name: value for name, value in os.environ.items() if name not in ours}, **ours}
         return {**wanted, "SPBAGS_ROOM": "." * (self.ROOM + length_of(os.environ.items()) - length_of(wanted.items()))}
 
@@ -281,9 +307,14 @@ class Runner:
         """A run that looks at the places of these races, and its notes."""
         said, notes = Said(self.tell), memory_file()
         with stops_of(races) as stops:
-            program = self.execute(said, {"SPBAGS_TRACE": notes.fileno(), "SPBAGS_LOOK": stops.fileno(), **files}, True,
-                                   f"{len(races):,} race{'' if len(races) == 1 else 's'}",
-                                   SPBAGS_MAX_BYTES=str(1 << 62), **settings)
+            program = self.execute(
+                said,
+                {"SPBAGS_TRACE": notes.fileno(), "SPBAGS_LOOK": stops.fileno(), **files},
+                True,
+                f"{len(races):,} race{'' if len(races) == 1 else 's'}",
+                SPBAGS_MAX_BYTES=str(1 << 62),
+                **settings,
+            )
         return self.wait(program, said, notes)
 
 

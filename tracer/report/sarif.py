@@ -12,8 +12,10 @@ from report.source_lines import Position
 
 SCHEMA = "https://json.schemastore.org/sarif-2.1.0.json"
 RACE, GUARDED = "determinacy-race", "guarded-race"
-RULES = {RACE: "Two accesses, one a write, are parallel: another schedule may give another result.",
-         GUARDED: "Two accesses are parallel, and both are atomic or under one lock: either may come first."}
+RULES = {
+    RACE: "Two accesses, one a write, are parallel: another schedule may give another result.",
+    GUARDED: "Two accesses are parallel, and both are atomic or under one lock: either may come first.",
+}
 # Where determinacy races are defined.
 HELP = "https://doi.org/10.1145/258492.258493"
 # The folder from which files below it are named.
@@ -56,16 +58,23 @@ def fingerprint_of(pair: Pair) -> str:
 
 
 def result_of(pair: Pair, unit: int, seen: collections.Counter[str]) -> Object:
-    said = [text.headline(pair), f"variable {text.variable_line(pair.variable, unit)}",
-            *map(" ".join, text.order_rows(pair))]
+    said = [
+        text.headline(pair),
+        f"variable {text.variable_line(pair.variable, unit)}",
+        *map(" ".join, text.order_rows(pair)),
+    ]
     first, second = pair.sides
     fingerprint = fingerprint_of(pair)
     seen[fingerprint] += 1
-    return {"ruleId": GUARDED if pair.is_guarded() else RACE, "level": "warning" if pair.is_guarded() else "error",
-            "message": {"text": ". ".join(said)}, "locations": [location_of(second.lead(), second.kind)],
-            "relatedLocations": [{"id": 1, **location_of(first.lead(), first.kind)}],
-            "partialFingerprints": {FINGERPRINT: f"{fingerprint}:{seen[fingerprint]}"},
-            "stacks": [stack_of(side) for side in pair.sides]}
+    return {
+        "ruleId": GUARDED if pair.is_guarded() else RACE,
+        "level": "warning" if pair.is_guarded() else "error",
+        "message": {"text": ". ".join(said)},
+        "locations": [location_of(second.lead(), second.kind)],
+        "relatedLocations": [{"id": 1, **location_of(first.lead(), first.kind)}],
+        "partialFingerprints": {FINGERPRINT: f"{fingerprint}:{seen[fingerprint]}"},
+        "stacks": [stack_of(side) for side in pair.sides],
+    }
 
 
 def notifications_of(report: Report) -> list[Object]:
@@ -77,9 +86,21 @@ def notifications_of(report: Report) -> list[Object]:
 def as_object(report: Report, version: str) -> Object:
     rules = [{"id": name, "shortDescription": {"text": meaning}, "helpUri": HELP} for name, meaning in RULES.items()]
     seen: collections.Counter[str] = collections.Counter()
-    return {"$schema": SCHEMA, "version": "2.1.0", "runs": [{
-        "tool": {"driver": {"name": "spbags-run", "version": version, "rules": rules}},
-        "originalUriBaseIds": {ROOT: {"uri": uri_of(os.curdir).rstrip("/") + "/"}},
-        "invocations": [{"executionSuccessful": True, "arguments": report.command,
-                         "toolExecutionNotifications": notifications_of(report)}],
-        "results": [result_of(pair, report.unit, seen) for pair in report.pairs]}]}
+    return {
+        "$schema": SCHEMA,
+        "version": "2.1.0",
+        "runs": [
+            {
+                "tool": {"driver": {"name": "spbags-run", "version": version, "rules": rules}},
+                "originalUriBaseIds": {ROOT: {"uri": uri_of(os.curdir).rstrip("/") + "/"}},
+                "invocations": [
+                    {
+                        "executionSuccessful": True,
+                        "arguments": report.command,
+                        "toolExecutionNotifications": notifications_of(report),
+                    }
+                ],
+                "results": [result_of(pair, report.unit, seen) for pair in report.pairs],
+            }
+        ],
+    }

@@ -15,6 +15,7 @@ ATOMIC = 1
 @dataclass
 class Sites:
     """Races whose accesses are of the same two sites, by their locations."""
+
     kinds: tuple[str, str]
     sites: tuple[Site | None, Site | None]
     locations: list[int] = field(default_factory=list)

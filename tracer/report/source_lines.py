@@ -18,6 +18,7 @@ class _Position(NamedTuple):
 
 class Position(_Position):
     """A function, and a line of it; the line is 0 where it isn't known."""
+
     # What of a spawn of C++ this is: the function that its statement becomes, or what this calls for the child.
     STATEMENT, WAY = "statement", "way"
     part: str | None = None
@@ -62,6 +63,7 @@ def pattern(text: str) -> str:
 
 class Root:
     """The folder from which files are named."""
+
     folder = os.curdir
 
 

@@ -80,8 +80,10 @@ def side_lines(sides: list[tuple[Position, str]]) -> Iterator[str]:
     """Each side is a position and what happens there."""
     width = max(len(source_line(position)) for position, _ in sides)
     for position, what in sides:
-        yield (f"{text.INDENT}{source_line(position):{width}}  {what:5}  in {function_of(position)}:  "
-               f"{source_lines.text_of(position)}").rstrip()
+        yield (
+            f"{text.INDENT}{source_line(position):{width}}  {what:5}  in {function_of(position)}:  "
+            f"{source_lines.text_of(position)}"
+        ).rstrip()
 
 
 def pair_lines(pairs: list[Pair]) -> Iterator[str]:
@@ -90,7 +92,9 @@ def pair_lines(pairs: list[Pair]) -> Iterator[str]:
     for pair in pairs:
         named = f" of location {pair.location}" if pair.races == 1 and pair.location >= 0 else ""
         yield f"\n{text.many(pair.races, 'race')}{named}"
-        yield from side_lines([(side.lead(), " or ".join(sorted(kinds))) for side, kinds in zip(pair.sides, pair.kinds)])
+        yield from side_lines(
+            [(side.lead(), " or ".join(sorted(kinds))) for side, kinds in zip(pair.sides, pair.kinds)]
+        )
 
 
 def brief_lines(pairs: list[Pair]) -> Iterator[str]:
@@ -147,14 +151,17 @@ def answer(lines: list[str], brief: bool, places: Places, report: str | None) ->
 
 def options() -> argparse.ArgumentParser:
     parser = argparse.ArgumentParser(
-        prog="spbags-lines", description=__doc__, formatter_class=argparse.RawDescriptionHelpFormatter)
+        prog="spbags-lines", description=__doc__, formatter_class=argparse.RawDescriptionHelpFormatter
+    )
     parser.add_argument("--version", action="version", version=f"spbags-lines {VERSION}")
     parser.add_argument("--brief", action="store_true", help="one line for each pair of source lines")
     parser.add_argument("program", metavar="PROGRAM", help="the program that wrote the trace")
-    parser.add_argument("trace", metavar="TRACE",
-                        help="the trace, whose source lines come from TRACE.places; or that file itself")
-    parser.add_argument("answer", metavar="ANSWER", nargs="?", default="-",
-                        help="the answer; - is standard input (default -)")
+    parser.add_argument(
+        "trace", metavar="TRACE", help="the trace, whose source lines come from TRACE.places; or that file itself"
+    )
+    parser.add_argument(
+        "answer", metavar="ANSWER", nargs="?", default="-", help="the answer; - is standard input (default -)"
+    )
     parser.add_argument("report", metavar="REPORT", nargs="?", help="the report that `confirm` was asked about")
     return parser
 

@@ -65,7 +65,12 @@ def options() -> argparse.ArgumentParser:
     def value(name: str, metavar: str, told: str, default: object = None, of: Callable[[str], object] = str) -> None:
         parser.add_argument(name, metavar=metavar, default=default, type=of, help=told)
 
-    value("--shards", "N", "threads of spbags that share the locations, 1 to 64 (default 1, since the program runs too)", "1")
+    value(
+        "--shards",
+        "N",
+        "threads of spbags that share the locations, 1 to 64 (default 1, since the program runs too)",
+        "1",
+    )
     value("--most", "N", "show at most N pairs of lines (default 20)", 20, natural)
     flag("--repeats", "write repeats into the trace too")
     value("--keep", "TRACE", "keep the trace in this file, and its places in TRACE.places")
@@ -83,7 +88,9 @@ def options() -> argparse.ArgumentParser:
     flag("--streams", "report children that use one stream or descriptor in an order that isn't determined")
     parser.set_defaults(streams=os.environ.get("SPBAGS_STREAMS") == "1")
     value("--exitcode", "N", "the status if there is a race (default 1)", 1, status)
-    value("--no-answer-status", "N", "the status if there is no answer (default 2; `git bisect run` needs 125)", 2, status)
+    value(
+        "--no-answer-status", "N", "the status if there is no answer (default 2; `git bisect run` needs 125)", 2, status
+    )
     flag("--one-run", "run the program once, and look from its start: lines without stacks, if it can't be repeated")
     value("--timeout", "S", "end the program after S seconds, and report what came before", None, seconds)
     flag("--incomplete-ok", "status 0 if no race was found, even if something wasn't seen or modelled")
@@ -101,11 +108,21 @@ class Session:
         self.chosen, self.progress = chosen, Progress()
         self.unit = os.environ.get("SPBAGS_UNIT") or "4"
         # A trace that is kept has streams only if they are asked for, since `spbags` doesn't know them from the rest.
-        settings = {"SPBAGS_UNIT": self.unit, "SPBAGS_STREAMS": "1" if chosen.streams or not chosen.keep else "0",
-                    **({"SPBAGS_REPEATS": "1"} if chosen.repeats else {})}
+        settings = {
+            "SPBAGS_UNIT": self.unit,
+            "SPBAGS_STREAMS": "1" if chosen.streams or not chosen.keep else "0",
+            **({"SPBAGS_REPEATS": "1"} if chosen.repeats else {}),
+        }
         output = sys.stderr if (chosen.json or chosen.sarif) and not chosen.output else None
-        self.runner = runs.Runner(chosen.command, ["--shards", chosen.shards], settings, output, chosen.timeout,
-                                  self.tell_stuck, self.progress)
+        self.runner = runs.Runner(
+            chosen.command,
+            ["--shards", chosen.shards],
+            settings,
+            output,
+            chosen.timeout,
+            self.tell_stuck,
+            self.progress,
+        )
         self.looked: Looks | None = None
 
     def tell_stuck(self, what: str, codes: list[int]) -> None:
@@ -147,13 +164,17 @@ class Session:
         """What later runs say."""
         if not self.looked:
             from report.later_runs import Looks
+
             self.looked = Looks(self.runner, self.chosen, int(self.unit))
         return self.looked
 
     def is_silenced(self, function: str) -> bool:
         """Whether --unseen-ok names it; the words of a C++ function needn't be there."""
-        return any(re.fullmatch(source_lines.pattern(name), shape) for name in self.chosen.unseen_ok
-                   for shape in (function, function.partition("(")[0]))
+        return any(
+            re.fullmatch(source_lines.pattern(name), shape)
+            for name in self.chosen.unseen_ok
+            for shape in (function, function.partition("(")[0])
+        )
 
     def notes_of(self, run: runs.Run) -> list[str]:
         """What is to be said of the first run's end; without a race only a whole run has an answer."""
@@ -174,6 +195,7 @@ class Session:
         ignored = None
         if found or chosen.suppress:
             from report.suppressions import Suppressions
+
             ignored = Suppressions(chosen.suppress)
         suppressed = [pair for pair in found if ignored and ignored.match(pair)]
         rest = [pair for pair in found if pair not in suppressed]
@@ -181,16 +203,32 @@ class Session:
         rest = [pair for pair in rest if pair not in guarded]
         own = sum(pair.guard == result.THREAD_LOCAL for pair in guarded)
         if own > 0:
-            notes.append(f"{text.many(own, 'pair')} of thread-local variables left out: a data race if one child "
-                         "reaches another thread's by a pointer")
+            notes.append(
+                f"{text.many(own, 'pair')} of thread-local variables left out: a data race if one child "
+                "reaches another thread's by a pointer"
+            )
         ran = run.words("ran")
         spawns, accesses = (int(ran[0]), int(ran[1])) if ran else (None, None)
-        ended = result.Ended(run.status if run.status >= 0 else None, -run.status if run.status < 0 else None, run.is_whole())
-        return result.Report(chosen.command, int(self.unit), ended, spawns, accesses, races, rest[:chosen.most],
-                             result.count(rest[chosen.most:]), result.count(suppressed), result.count(guarded),
-                             without_stacks, notes + (looked.notes + looked.hints() if looked else []), incomplete,
-                             [unseen for unseen in run.unseen if not self.is_silenced(unseen.function)],
-                             ignored.told() if ignored else [])
+        ended = result.Ended(
+            run.status if run.status >= 0 else None, -run.status if run.status < 0 else None, run.is_whole()
+        )
+        return result.Report(
+            chosen.command,
+            int(self.unit),
+            ended,
+            spawns,
+            accesses,
+            races,
+            rest[: chosen.most],
+            result.count(rest[chosen.most :]),
+            result.count(suppressed),
+            result.count(guarded),
+            without_stacks,
+            notes + (looked.notes + looked.hints() if looked else []),
+            incomplete,
+            [unseen for unseen in run.unseen if not self.is_silenced(unseen.function)],
+            ignored.told() if ignored else [],
+        )
 
 
 def has_colours(chosen: argparse.Namespace, output: TextIO) -> bool:
@@ -203,6 +241,7 @@ def text_of(found: result.Report, chosen: argparse.Namespace, output: TextIO) ->
         import json
 
         from report import sarif
+
         return json.dumps(sarif.as_object(found, VERSION) if chosen.sarif else result.as_object(found), indent=1)
     if chosen.gen_suppressions:
         return "\n".join(text.suppressions(found.pairs))
@@ -212,12 +251,18 @@ def text_of(found: result.Report, chosen: argparse.Namespace, output: TextIO) ->
 def width() -> int:
     """That of what shows the text."""
     import shutil
+
     return shutil.get_terminal_size((120, 24)).columns
 
 
 def show(found: result.Report, chosen: argparse.Namespace) -> None:
-    with open(chosen.output or sys.stdout.fileno(), "w", encoding="utf-8", errors="surrogateescape",
-              closefd=bool(chosen.output)) as output:
+    with open(
+        chosen.output or sys.stdout.fileno(),
+        "w",
+        encoding="utf-8",
+        errors="surrogateescape",
+        closefd=bool(chosen.output),
+    ) as output:
         print(text_of(found, chosen, output), file=output)
 
 
@@ -232,11 +277,13 @@ def page_of(found: result.Report | None, chosen: argparse.Namespace) -> str:
     try:
         # Nothing else needs the folders of the system's packages.
         import site
+
         site.main()
         from report import html_page
     except ImportError as error:
-        raise Failure(f"--html needs the module {error.name} of Python: apt-get install python3-jinja2 "
-                      "python3-pygments") from error
+        raise Failure(
+            f"--html needs the module {error.name} of Python: apt-get install python3-jinja2 " "python3-pygments"
+        ) from error
     return html_page.page_of(found, status_of(found, chosen)) if found else ""
 
 

@@ -19,6 +19,7 @@ LONGEST_CYCLE = 8
 class Frame(NamedTuple):
     """A position on the stack, and what stands there: `write` or `read`, `spawn`, `call` or `allocation`. The depth is
     how many functions stand on the stack up to here."""
+
     role: str
     position: Position
     depth: int
@@ -26,6 +27,7 @@ class Frame(NamedTuple):
 
 class Row(NamedTuple):
     """A line of a stack. What stands behind the text isn't cut."""
+
     label: str
     place: str = ""
     function: str = ""
@@ -39,7 +41,9 @@ def place(position: Position) -> str:
 
 def short_place(position: Position) -> str:
     """Without the folder of a header of the system."""
-    return place(position._replace(file=os.path.basename(position.file)) if source_lines.is_system(position) else position)
+    return place(
+        position._replace(file=os.path.basename(position.file)) if source_lines.is_system(position) else position
+    )
 
 
 def row_of(label: str, position: Position) -> Row:
@@ -58,8 +62,11 @@ def common_tail(one: list[Frame], other: list[Frame]) -> int:
 
 def without_regions(stack: list[Frame]) -> list[Frame]:
     """A region of OpenMP is called by its own line, where its loop or its task is made too."""
-    return stack[:1] + [frame for before, frame in zip(stack, stack[1:])
-                        if (before.role, frame.role) != ("spawn", "call") or before.position != frame.position]
+    return stack[:1] + [
+        frame
+        for before, frame in zip(stack, stack[1:])
+        if (before.role, frame.role) != ("spawn", "call") or before.position != frame.position
+    ]
 
 
 def access_rows(stack: list[Frame], lead: Position) -> list[Row]:
@@ -75,8 +82,11 @@ def allocation_rows(stack: list[Frame]) -> list[Row]:
     inside = next(number for number, frame in enumerate(stack) if frame.position == lead)
     if inside == 0:
         return rows(stack)
-    return [row_of(LABELS["allocation"], lead), *rows([stack[0]._replace(role="header"), *stack[1:inside]], False),
-            *rows(stack[inside + 1:])]
+    return [
+        row_of(LABELS["allocation"], lead),
+        *rows([stack[0]._replace(role="header"), *stack[1:inside]], False),
+        *rows(stack[inside + 1 :]),
+    ]
 
 
 def rows(stack: list[Frame], shows_innermost: bool = True) -> list[Row]:
@@ -111,8 +121,10 @@ def system_rows(frames: list[Frame], is_innermost: bool) -> list[Row]:
     inner = [frame_row(frames[0].role, frames[0].position)] if is_innermost else []
     outer, left = frames[-1], len(frames) - 1 - len(inner)
     label = label_of(outer.role if inner else frames[0].role)
-    return [*inner, Row(label, short_place(outer.position), function_of(outer.position), "",
-                        f"and {left} more" if left else "")]
+    return [
+        *inner,
+        Row(label, short_place(outer.position), function_of(outer.position), "", f"and {left} more" if left else ""),
+    ]
 
 
 def folded(found: list[Row]) -> list[Row]:
@@ -121,7 +133,7 @@ def folded(found: list[Row]) -> list[Row]:
     at = 0
     while at < len(found):
         length, times = cycle_at(found, at)
-        *before, last = folded(found[at:at + length]) if length > 1 else found[at:at + 1]
+        *before, last = folded(found[at : at + length]) if length > 1 else found[at : at + 1]
         if times > 1:
             said = f"these {len(before) + 1} rows {times} times" if before else f"{times} times"
             last = last._replace(behind="; ".join(filter(None, (last.behind, said))))
@@ -135,7 +147,7 @@ def cycle_at(found: list[Row], at: int) -> tuple[int, int]:
     best = 1, 1
     for length in range(1, min(LONGEST_CYCLE, (len(found) - at) // 2) + 1):
         times = 1
-        while found[at + times * length:at + (times + 1) * length] == found[at:at + length]:
+        while found[at + times * length : at + (times + 1) * length] == found[at : at + length]:
             times += 1
         if times > 1 and length * times > best[0] * best[1]:
             best = length, times

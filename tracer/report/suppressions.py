@@ -13,6 +13,7 @@ Test = Callable[[Pair], bool]
 
 class Used(NamedTuple):
     """A line, and what it left out."""
+
     line: str
     pairs: int
     races: int
@@ -23,6 +24,7 @@ class Suppressions:
     `race:PATTERN`; `variable:PATTERN` is for a part of the variable's name. `*` matches anything, `^` and `$` the
     name's beginning and end. `pair:FILE:LINE FILE:LINE NAME` leaves out one pair, by the name of its variable if it has
     one. ThreadSanitizer's other kinds of lines are passed over."""
+
     OTHERS = {"thread", "mutex", "signal", "deadlock", "called_from_lib", "race_top"}
     PAIR = re.compile("(.+):([0-9]+) (.+):([0-9]+)(?: (.+))?")
     # What each run leaves out, and reports if it does.
@@ -66,15 +68,25 @@ class Suppressions:
 
 def finder(pattern: str) -> Callable[[str], object]:
     """What finds a suppression's pattern in a name."""
-    inner = pattern[pattern.startswith("^"):len(pattern) - pattern.endswith("$")]
-    return re.compile(("^" if pattern.startswith("^") else "") + source_lines.pattern(inner) +
-                      ("$" if pattern.endswith("$") else "")).search
+    inner = pattern[pattern.startswith("^") : len(pattern) - pattern.endswith("$")]
+    return re.compile(
+        ("^" if pattern.startswith("^") else "") + source_lines.pattern(inner) + ("$" if pattern.endswith("$") else "")
+    ).search
 
 
 def race_test(pattern: str) -> Test:
     finds = finder(pattern)
-    return lambda pair: any(map(finds, {name for side in pair.sides for frame in side.stack for name in
-                                        (frame.position.function, frame.position.file)}))
+    return lambda pair: any(
+        map(
+            finds,
+            {
+                name
+                for side in pair.sides
+                for frame in side.stack
+                for name in (frame.position.function, frame.position.file)
+            },
+        )
+    )
 
 
 def variable_test(pattern: str) -> Test:

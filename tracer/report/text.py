@@ -10,8 +10,7 @@ from typing import TYPE_CHECKING
 from report import advice, source_lines
 from report.function_names import function_of
 from report.result import NO_OPENMP, THREAD_LOCAL, UNKNOWN_GUARD, Report
-from report.stack_rows import (
-    BOTH, Frame, Row, access_rows, allocation_rows, common_tail, place, rows, without_regions)
+from report.stack_rows import BOTH, Frame, Row, access_rows, allocation_rows, common_tail, place, rows, without_regions
 
 if TYPE_CHECKING:
     from report.pairs import MissingSync, Pair, Siblings, Variable
@@ -42,15 +41,15 @@ def spelled(number: int, name: str) -> str:
 def in_middle(text: str, width: int) -> str:
     """A text without its middle, where it is wider."""
     first = (width - len(CUT) + 1) // 2
-    return text if len(text) <= width else text[:first] + CUT + text[len(text) - (width - len(CUT) - first):]
+    return text if len(text) <= width else text[:first] + CUT + text[len(text) - (width - len(CUT) - first) :]
 
 
 def at_start(text: str, width: int) -> str:
-    return text if len(text) <= width else CUT + text[len(CUT) - width:]
+    return text if len(text) <= width else CUT + text[len(CUT) - width :]
 
 
 def at_end(text: str, width: int) -> str:
-    return text if len(text) <= width else text[:max(width - len(CUT), 0)] + CUT
+    return text if len(text) <= width else text[: max(width - len(CUT), 0)] + CUT
 
 
 def stacks_of(pair: Pair) -> list[list[Frame]]:
@@ -74,8 +73,10 @@ class Text:
         return f"\033[{colour}m{text}\033[0m" if self.colours else text
 
     def wrapped(self, text: str, colour: str) -> list[str]:
-        return [self.coloured(line, colour)
-                for line in textwrap.wrap(text, self.width, subsequent_indent=INDENT, break_on_hyphens=False)]
+        return [
+            self.coloured(line, colour)
+            for line in textwrap.wrap(text, self.width, subsequent_indent=INDENT, break_on_hyphens=False)
+        ]
 
     def lines(self) -> Iterator[str]:
         groups = by_variable(self.report.pairs)
@@ -108,10 +109,13 @@ class Text:
         yield from self.wrapped(headline(pair), "1;31")
         stacks = stacks_of(pair)
         tail = common_tail(*stacks)
-        shown = [row for side, stack in zip(pair.sides, stacks)
-                 for row in access_rows(stack[:len(stack) - tail], side.lead())]
+        shown = [
+            row
+            for side, stack in zip(pair.sides, stacks)
+            for row in access_rows(stack[: len(stack) - tail], side.lead())
+        ]
         if tail > 0:
-            shown += [Row(BOTH), *rows(stacks[0][len(stacks[0]) - tail:])]
+            shown += [Row(BOTH), *rows(stacks[0][len(stacks[0]) - tail :])]
         owner = allocation_rows(pair.variable.stack) if pair.variable.stack else []
         label = max(len(row.label) for row in [*shown, *owner])
         widths = self.widths([*shown, *owner], label)
@@ -138,11 +142,13 @@ class Text:
 
     def prose(self, label: str, text: str, width: int) -> list[str]:
         start = f"{INDENT}{label:{width}}{GAP}"
-        return textwrap.wrap(text, self.width, initial_indent=start, subsequent_indent=" " * len(start),
-                             break_on_hyphens=False)
+        return textwrap.wrap(
+            text, self.width, initial_indent=start, subsequent_indent=" " * len(start), break_on_hyphens=False
+        )
 
 
 # ---- What is said of the whole ----
+
 
 def heading(pairs: list[Pair]) -> str:
     """Of the pairs of one variable."""
@@ -160,8 +166,11 @@ def last_line(report: Report) -> str:
     parts = [f"races {report.races - report.suppressed.races - report.guarded.races}, pairs of lines {shown}"]
     if report.spawns is not None and report.accesses is not None:
         parts[0] += f", {spelled(report.spawns, 'spawn')}, {spelled(report.accesses, 'access')}"
-    for what, left in (("not shown", report.not_shown), ("suppressed", report.suppressed),
-                       ("no data race", report.guarded)):
+    for what, left in (
+        ("not shown", report.not_shown),
+        ("suppressed", report.suppressed),
+        ("no data race", report.guarded),
+    ):
         if left.pairs > 0:
             parts.append(f"{what}: {many(left.races, 'race')} of {many(left.pairs, 'pair')}")
     guarded_pairs = sum(pair.is_guarded() for pair in report.pairs)
@@ -184,6 +193,7 @@ def suppression_line(used: Used) -> str:
 
 
 # ---- What is said of a pair ----
+
 
 def kind_of(kind: str, pair: Pair) -> str:
     return OF_REDUCER.get(kind, kind) if pair.reducer else kind
@@ -278,8 +288,13 @@ def order_rows(pair: Pair) -> list[tuple[str, str]]:
         is_spawn = missing_sync.construct == "spawn"
         said.append(("no sync" if is_spawn else "no order", missing_sync_line(missing_sync) + advised))
     if pair.held_before:
-        said.append(("lock", f"in this run the later access comes after its thread held {pair.held_before}, which the first "
-                             "one holds"))
+        said.append(
+            (
+                "lock",
+                f"in this run the later access comes after its thread held {pair.held_before}, which the first "
+                "one holds",
+            )
+        )
     return said
 
 
@@ -302,7 +317,7 @@ def parts_named(variable: Variable) -> str:
         return f"{', '.join(parts[:-1])} and {parts[-1]}"
     base = BASE.match(parts[0])
     name = variable.name or (base[0] if base else "")
-    kind = "element" if all(ELEMENT.fullmatch(part[len(name):]) for part in parts) else "part"
+    kind = "element" if all(ELEMENT.fullmatch(part[len(name) :]) for part in parts) else "part"
     return f"{parts[0]} and {(len(parts) if are_all else variable.parts_count) - 1} more {kind}s of {name}"
 
 
@@ -316,7 +331,9 @@ def siblings_line(siblings: Siblings) -> str:
     numbers = " and ".join(" to ".join(map(str, one)) for one in both)
     if construct == "sections":
         return f"sections {numbers} may run at once"
-    parts = {"parallel_invoke": "functions", "algorithm": "elements", "parallel_sort": "parts"}.get(construct, "iterations")
+    parts = {"parallel_invoke": "functions", "algorithm": "elements", "parallel_sort": "parts"}.get(
+        construct, "iterations"
+    )
     return f"{parts} {numbers} of the {construct if construct in NO_OPENMP else 'loop'} at {where} may run at once"
 
 
@@ -333,9 +350,12 @@ def missing_sync_line(missing_sync: MissingSync) -> str:
 
 # ---- Other lines of `spbags-run` ----
 
+
 def told(what: str, width: int) -> list[str]:
     """A line of `spbags-run`, in rows that are as wide."""
-    return textwrap.wrap(f"spbags-run: {what}", max(width, LEAST_WIDTH), subsequent_indent=INDENT, break_on_hyphens=False)
+    return textwrap.wrap(
+        f"spbags-run: {what}", max(width, LEAST_WIDTH), subsequent_indent=INDENT, break_on_hyphens=False
+    )
 
 
 def stack_rows(program: str, codes: list[int]) -> list[str]:
@@ -351,6 +371,7 @@ def stack_rows(program: str, codes: list[int]) -> list[str]:
 
 def suppressions(pairs: Iterable[Pair]) -> Iterator[str]:
     """Lines that leave out each of these, with a comment before each that says which."""
+
     def line_of(pair: Pair) -> str:
         return pair.suppression() or ""
 

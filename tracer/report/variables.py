@@ -13,6 +13,7 @@ from report.elf import UNREADABLE, Elf
 
 class Global(NamedTuple):
     """A variable that isn't a function's by its symbol, a byte of it by its offset, and its size."""
+
     name: str
     offset: int
     size: int
@@ -21,6 +22,7 @@ class Global(NamedTuple):
 class Named(NamedTuple):
     """A variable by what the DWARF has of it, with the same; and the part with that byte, as an expression of C. Where
     that is no scalar, the rest is the offset in it, and its size."""
+
     entry: Entry
     name: str
     offset: int
@@ -35,27 +37,30 @@ FRAME, ALIGNED, DATA, THREAD, GLOBAL = "frame", "aligned", "data", "thread", "gl
 Storage = tuple[str, int]
 
 # Tags.
-PARAMETER, BLOCK, INLINED, FUNCTION, VARIABLE, NAMESPACE = 0x05, 0x0b, 0x1d, 0x2e, 0x34, 0x39
+PARAMETER, BLOCK, INLINED, FUNCTION, VARIABLE, NAMESPACE = 0x05, 0x0B, 0x1D, 0x2E, 0x34, 0x39
 HOLDS_VARIABLES = {BLOCK, INLINED}
 # Attributes.
 LOW_PC, FRAME_BASE = 0x11, 0x40
 
 # Operations of an expression. Register 5 has a function's first argument where the function begins, and 6 its frame; 3
 # has what clang has aligned of that.
-ADDR, DEREF, PLUS, ARGUMENT, FRAME_POINTER, FRAME_OFFSET, ADDRX = 0x03, 0x06, 0x23, 0x75, 0x76, 0x91, 0xa1
+ADDR, DEREF, PLUS, ARGUMENT, FRAME_POINTER, FRAME_OFFSET, ADDRX = 0x03, 0x06, 0x23, 0x75, 0x76, 0x91, 0xA1
 ALIGNED_POINTER = 0x73
-CONSTANT, IN_THREAD, AT_ENTRY = 0x0e, {0x9b, 0xe0}, {0xa3, 0xf3}
+CONSTANT, IN_THREAD, AT_ENTRY = 0x0E, {0x9B, 0xE0}, {0xA3, 0xF3}
 # The frame pointer is so far below the frame's end, and so is what clang means by its frame.
 BELOW = 16
 BASES = {b"\x9c": 0, b"\x56": -BELOW}
 # How a function begins that aligns its frame: it saves registers, aligns the stack, makes room, and keeps that place.
-ALIGNS = re.compile(rb"\x55\x48\x89\xe5((?:\x41?[\x50-\x57])*)\x48(?:\x83\xe4(.)|\x81\xe4(.{4}))"
-                    rb"\x48(?:\x83\xec(.)|\x81\xec(.{4}))\x48\x89\xe3", re.DOTALL)
+ALIGNS = re.compile(
+    rb"\x55\x48\x89\xe5((?:\x41?[\x50-\x57])*)\x48(?:\x83\xe4(.)|\x81\xe4(.{4}))"
+    rb"\x48(?:\x83\xec(.)|\x81\xec(.{4}))\x48\x89\xe3",
+    re.DOTALL,
+)
 LONGEST_START, PUSH = 48, re.compile(rb"\x41?[\x50-\x57]")
 OWN = re.compile("__spbags_")
 # The hooks of accesses, by their width in bytes.
 ACCESS = re.compile("__(?:tsan|spbags_(?:first|stack|long))_(?:read|write)([0-9]+)")
-CALL, CALL_SIZE = 0xe8, 5
+CALL, CALL_SIZE = 0xE8, 5
 OUTLINED = re.compile(r"\._omp_(?:cpy)?fn\.[0-9]+$")
 # The lock of a critical region of OpenMP: gcc's, and clang's, which has one too if the region has no name.
 CRITICAL = re.compile(r"\.gomp_critical_user_(.*?)(?:\.var)?")
@@ -65,11 +70,13 @@ Method = TypeVar("Method", bound=Callable[..., Any])
 
 def readable(method: Method) -> Method:
     """What a method finds, or nothing where the DWARF can't be read."""
+
     def found(*words: Any) -> Any:
         try:
             return method(*words)
         except UNREADABLE:
             return None
+
     return cast(Method, found)
 
 
@@ -130,8 +137,11 @@ class Names:
 
     def local(self, code: int, kind: str, offset: int) -> Named | None:
         """Where two variables may be meant, none is."""
-        found = [self.named(entry, offset - place[1]) for place, size, entry in self.variables_of(code)
-                 if place[0] == kind and 0 <= offset - place[1] < size]
+        found = [
+            self.named(entry, offset - place[1])
+            for place, size, entry in self.variables_of(code)
+            if place[0] == kind and 0 <= offset - place[1] < size
+        ]
         return found[0] if len({one and one[1:] for one in found}) == 1 else None
 
     def aligned(self, code: int, end: int) -> int | None:
@@ -178,8 +188,10 @@ class Names:
         found = self.elf.functions.at(code)
         if found and found.start not in self.entries:
             start = found.start
-            self.entries[start] = self.entry_with(struct.pack("<Q", start), lambda entry: entry.tag == FUNCTION and
-                                                  self.dwarf.address(entry, LOW_PC) == start)
+            self.entries[start] = self.entry_with(
+                struct.pack("<Q", start),
+                lambda entry: entry.tag == FUNCTION and self.dwarf.address(entry, LOW_PC) == start,
+            )
         return self.entries[found.start] if found else None
 
     def placed(self, entry: Entry, function: Entry, is_outlined: bool) -> Iterator[tuple[Storage, int, Entry]]:
@@ -193,12 +205,15 @@ class Names:
     def places(self, entry: Entry, function: Entry | None, is_outlined: bool = False) -> set[Storage]:
         """Where the variable may be."""
         base = BASES.get(function.blocks.get(FRAME_BASE, b"")) if function else None
-        found = (self.place(expression, entry.unit, base, is_outlined and number == 0, is_outlined)
-                 for number, expression in enumerate(self.dwarf.expressions(entry)))
+        found = (
+            self.place(expression, entry.unit, base, is_outlined and number == 0, is_outlined)
+            for number, expression in enumerate(self.dwarf.expressions(entry))
+        )
         return {place for place in found if place}
 
-    def place(self, expression: bytes, unit: Unit, base: int | None, is_at_entry: bool,
-              is_outlined: bool) -> Storage | None:
+    def place(
+        self, expression: bytes, unit: Unit, base: int | None, is_at_entry: bool, is_outlined: bool
+    ) -> Storage | None:
         """What an expression says as a whole, or None. An outlined function has its data's address as its argument; gcc
         without optimisation keeps that in the frame."""
         operation, rest = expression[0], expression[1:]
@@ -218,8 +233,8 @@ class Names:
             return (ALIGNED, offset) if end == len(rest) else None
         if operation == ARGUMENT:
             return in_argument(rest[end:], offset) if is_at_entry else None
-        if is_outlined and rest[end:end + 1] == bytes([DEREF]):
-            return in_argument(rest[end + 1:])
+        if is_outlined and rest[end : end + 1] == bytes([DEREF]):
+            return in_argument(rest[end + 1 :])
         start = -BELOW if operation == FRAME_POINTER else base
         return (FRAME, start + offset) if end == len(rest) and start is not None else None
 
