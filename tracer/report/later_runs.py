@@ -68,7 +68,7 @@ class Found:
         )
 
 
-class Looks:
+class LaterRuns:
     """The pairs of source positions, how many races they have and how many of these have no stacks, and what is to be
     said beside them."""
 
@@ -95,7 +95,7 @@ class Looks:
             run = self.runner.found(None, True, {**files, "SPBAGS_PLACES": places.fileno()}, **settings)
             return self.found(run, places, divided)
 
-    def look_behind(self, run: Run) -> bool:
+    def find_behind(self, run: Run) -> bool:
         """What the first run couldn't see behind taskwaits is seen by one in which their tasks are parts of their
         parents. Whether that did the same: otherwise the lines about that stay."""
         try:
@@ -104,7 +104,7 @@ class Looks:
             behind = None
         before = len(self.pairs)
         if behind:
-            self.look(behind)
+            self.find_pairs(behind)
         if len(self.pairs) > before:
             self.notes.append(
                 f"{text.many(len(self.pairs) - before, 'pair')} of lines came of one more run, in which a "
@@ -112,7 +112,7 @@ class Looks:
             )
         return behind is not None and behind.run.is_whole() and not behind.run.waits
 
-    def look(self, found: Found) -> None:
+    def find_pairs(self, found: Found) -> None:
         """The pairs of these races: with stacks where another run had the same accesses, and else as they are known."""
         notes, looked = (None, None) if found.places else (self.notes_of(found), found)
         narrow = found.narrow(notes)

@@ -22,7 +22,7 @@ from report.progress import Progress
 
 # What is of use only for some answers is imported where they are made: a program without races waits for no more.
 if TYPE_CHECKING:
-    from report.later_runs import Looks
+    from report.later_runs import LaterRuns
 
 
 def natural(word: str) -> int:
@@ -123,7 +123,7 @@ class Session:
             self.tell_stuck,
             self.progress,
         )
-        self.looked: Looks | None = None
+        self.later: LaterRuns | None = None
 
     def tell_stuck(self, what: str, codes: list[int]) -> None:
         """The program may wait for ever, so this line doesn't wait for the report."""
@@ -153,20 +153,20 @@ class Session:
             run, places = self.traced()
             self.runner.files = {}
             if run.has_races():
-                looks = self.looks()
-                looks.look(looks.found(run, places))
+                later = self.later_runs()
+                later.find_pairs(later.found(run, places))
             notes = self.notes_of(run)
             self.runner.files = files
-            waits = [] if not run.waits or self.looks().look_behind(run) else run.waits
+            waits = [] if not run.waits or self.later_runs().find_behind(run) else run.waits
         return self.report(run, notes, run.incomplete + waits)
 
-    def looks(self) -> Looks:
+    def later_runs(self) -> LaterRuns:
         """What later runs say."""
-        if not self.looked:
-            from report.later_runs import Looks
+        if not self.later:
+            from report.later_runs import LaterRuns
 
-            self.looked = Looks(self.runner, self.chosen, int(self.unit))
-        return self.looked
+            self.later = LaterRuns(self.runner, self.chosen, int(self.unit))
+        return self.later
 
     def is_silenced(self, function: str) -> bool:
         """Whether --unseen-ok names it; the words of a C++ function needn't be there."""
@@ -178,7 +178,7 @@ class Session:
 
     def notes_of(self, run: runs.Run) -> list[str]:
         """What is to be said of the first run's end; without a race only a whole run has an answer."""
-        has_races = self.looked is not None and self.looked.races > 0
+        has_races = self.later is not None and self.later.races > 0
         notes = list(run.seeming) if has_races else []
         if not run.is_whole() and not has_races:
             raise Failure(f"{run.ending()}: there was no race up to that point")
@@ -190,8 +190,8 @@ class Session:
 
     def report(self, run: runs.Run, notes: list[str], incomplete: list[str]) -> result.Report:
         """What was found, without what is left out."""
-        chosen, looked = self.chosen, self.looked
-        found, races, without_stacks = (looked.pairs, looked.races, looked.without_stacks) if looked else ([], 0, 0)
+        chosen, later = self.chosen, self.later
+        found, races, without_stacks = (later.pairs, later.races, later.without_stacks) if later else ([], 0, 0)
         ignored = None
         if found or chosen.suppress:
             from report.suppressions import Suppressions
@@ -224,7 +224,7 @@ class Session:
             result.count(suppressed),
             result.count(guarded),
             without_stacks,
-            notes + (looked.notes + looked.hints() if looked else []),
+            notes + (later.notes + later.hints() if later else []),
             incomplete,
             [unseen for unseen in run.unseen if not self.is_silenced(unseen.function)],
             ignored.told() if ignored else [],
