@@ -7,10 +7,13 @@ from typing import BinaryIO
 
 
 def disk_file() -> BinaryIO:
-    """A file without a name."""
-    import tempfile
+    """A file without a name. Few systems need the module for that, which takes long."""
+    try:
+        return open(os.open(os.environ.get("TMPDIR") or "/tmp", os.O_TMPFILE | os.O_RDWR, 0o600), "w+b", buffering=0)
+    except OSError:
+        import tempfile
 
-    return tempfile.TemporaryFile(buffering=0)  # type: ignore[return-value]
+        return tempfile.TemporaryFile(buffering=0)  # type: ignore[return-value]
 
 
 class Input:

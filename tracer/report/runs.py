@@ -3,7 +3,6 @@ from __future__ import annotations
 
 import ctypes
 import os
-import shutil
 import signal
 import struct
 import subprocess
@@ -42,9 +41,15 @@ def checker() -> str:
     return os.path.realpath(named)
 
 
+def program_named(name: str) -> str | None:
+    """The file that a command of this name starts, or None."""
+    names = [name] if os.path.dirname(name) else [os.path.join(folder, name) for folder in os.get_exec_path()]
+    return next((found for found in names if os.path.isfile(found) and os.access(found, os.X_OK)), None)
+
+
 def traceable(name: str) -> tuple[str, bool]:
     """The program of this name, if spbags-cc has compiled it, and whether the detector is inside."""
-    found = shutil.which(name)
+    found = program_named(name)
     if not found:
         raise Failure(f"{name}: there is no such program")
     with open(found, "rb") as file:

@@ -3,8 +3,14 @@
     spbags-cc -o fib fib.c
     spbags-run -- ./fib 20
 
-The exit status is 0 if no race was found, 1 if one was, 2 if there is no answer, and 3 if no race was found but
-something wasn't seen or modelled: a line says what. The page tracer/RUN.md explains the report."""
+The exit status:
+
+    0  no race, and everything was seen and modelled
+    1  the report has races
+    2  no answer
+    3  no race, but something wasn't seen or modelled: a warning says what
+
+The page tracer/RUN.md explains the report."""
 from __future__ import annotations
 
 import argparse
@@ -78,22 +84,23 @@ def options() -> argparse.ArgumentParser:
     flag("--json", "print one JSON object; what the program prints then goes to standard error", form)
     flag("--sarif", "print SARIF 2.1.0, for editors and code review; the program's output goes as with --json", form)
     value("--html", "FILE", "write the report into this file too, as a page for browsers")
-    colours = "colours in the text (default auto: on a terminal, unless NO_COLOR is set)"
-    parser.add_argument("--color", choices=("auto", "always", "never"), default="auto", help=colours)
+    colours = "colours in the text: always, never, or auto, on a terminal unless NO_COLOR is set (default auto)"
+    choices = ("auto", "always", "never")
+    parser.add_argument("--color", metavar="WHEN", choices=choices, default="auto", help=colours)
     value("--output", "FILE", "write the report into this file")
     value("--source-root", "DIR", "name the files from this folder (default: the current one)", os.curdir)
-    value("--suppress", "FILE", "leave out races by the lines race:FUNCTION, race:FILE or variable:NAME of this file")
+    value("--suppress", "FILE", "leave out the races that this file names")
     flag("--gen-suppressions", "print lines for --suppress that leave out each pair, in place of the report")
-    flag("--data-races", "leave out races whose accesses are both atomic or both hold one lock")
+    flag("--data-races", "leave out pairs that aren't data races")
     flag("--streams", "report children that use one stream or descriptor in an order that isn't determined")
     parser.set_defaults(streams=os.environ.get("SPBAGS_STREAMS") == "1")
     value("--exitcode", "N", "the status if there is a race (default 1)", 1, status)
     value(
         "--no-answer-status", "N", "the status if there is no answer (default 2; `git bisect run` needs 125)", 2, status
     )
-    flag("--one-run", "run the program once, and look from its start: lines without stacks, if it can't be repeated")
+    flag("--one-run", "run the program once, and look from its start: lines without stacks")
     value("--timeout", "S", "end the program after S seconds, and report what came before", None, seconds)
-    flag("--incomplete-ok", "status 0 if no race was found, even if something wasn't seen or modelled")
+    flag("--incomplete-ok", "status 0 in place of 3, which accepts what wasn't seen or modelled")
     unseen = "accept calls of these unknown functions: names separated by commas; * matches anything"
     value("--unseen-ok", "LIST", unseen, [], names)
     parser.add_argument("--version", action="version", version=f"spbags-run {VERSION}")
@@ -250,6 +257,8 @@ def text_of(found: result.Report, chosen: argparse.Namespace, output: TextIO) ->
 
 def width() -> int:
     """That of what shows the text."""
+    if not os.environ.get("COLUMNS") and not os.isatty(1):
+        return 120
     import shutil
 
     return shutil.get_terminal_size((120, 24)).columns
