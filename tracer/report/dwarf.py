@@ -1,28 +1,38 @@
 """The entries of a program's DWARF, of versions 4 and 5, as gcc and clang write them. An entry is read where somebody
 asks for it: all of a large program would take seconds."""
 import bisect
+import contextlib
 import struct
+from collections.abc import Iterator
+from dataclasses import dataclass, field
 
-from report.elf import Elf
+from report.elf import UNREADABLE, Elf, text_at
 
 # Forms by their size; those of another kind are read by a function of their own below.
-SIZES = {0x01: 8, 0x05: 2, 0x06: 4, 0x07: 8, 0x0b: 1, 0x0c: 1, 0x0e: 4, 0x10: 4, 0x11: 1, 0x12: 2, 0x13: 4, 0x14: 8,
-         0x17: 4, 0x19: 0, 0x1c: 4, 0x1d: 4, 0x1e: 16, 0x1f: 4, 0x20: 8, 0x24: 8, 0x25: 1, 0x26: 2, 0x27: 3, 0x28: 4,
-         0x29: 1, 0x2a: 2, 0x2b: 3, 0x2c: 4, 0x1f20: 4, 0x1f21: 4}
-NUMBERS = {0x0f, 0x15, 0x1a, 0x1b, 0x22, 0x23, 0x1f01, 0x1f02}
-BLOCKS = {0x03: 2, 0x04: 4, 0x09: 0, 0x0a: 1, 0x18: 0}
-STRING, SIGNED, IMPLICIT, INDIRECT = 0x08, 0x0d, 0x21, 0x16
-STRP, LINE_STRP = 0x0e, 0x1f
-INDEXED_STRINGS, INDEXED_ADDRESSES = {0x1a, 0x25, 0x26, 0x27, 0x28}, {0x1b, 0x29, 0x2a, 0x2b, 0x2c}
+FORMS_OF_SIZE = {
+    0: (0x19,),
+    1: (0x0B, 0x0C, 0x11, 0x25, 0x29),
+    2: (0x05, 0x12, 0x26, 0x2A),
+    3: (0x27, 0x2B),
+    4: (0x06, 0x0E, 0x10, 0x13, 0x17, 0x1C, 0x1D, 0x1F, 0x28, 0x2C, 0x1F20, 0x1F21),
+    8: (0x01, 0x07, 0x14, 0x20, 0x24),
+    16: (0x1E,),
+}
+SIZES = {form: size for size, forms in FORMS_OF_SIZE.items() for form in forms}
+NUMBERS = {0x0F, 0x15, 0x1A, 0x1B, 0x22, 0x23, 0x1F01, 0x1F02}
+BLOCKS = {0x03: 2, 0x04: 4, 0x09: 0, 0x0A: 1, 0x18: 0}
+STRING, SIGNED, IMPLICIT, INDIRECT = 0x08, 0x0D, 0x21, 0x16
+STRP, LINE_STRP = 0x0E, 0x1F
+INDEXED_STRINGS, INDEXED_ADDRESSES = {0x1A, 0x25, 0x26, 0x27, 0x28}, {0x1B, 0x29, 0x2A, 0x2B, 0x2C}
 REFERENCES, GLOBAL_REFERENCE = {0x11, 0x12, 0x13, 0x14, 0x15}, 0x10
 INDEXED_LIST = 0x22
 
 # Attributes.
 SIBLING, LOCATION, NAME, SPECIFICATION, ORIGIN = 0x01, 0x02, 0x03, 0x47, 0x31
-STRINGS_BASE, ADDRESSES_BASE, LOCATIONS_BASE = 0x72, 0x73, 0x8c
+STRINGS_BASE, ADDRESSES_BASE, LOCATIONS_BASE = 0x72, 0x73, 0x8C
 
 
-def uleb(data, at):
+def uleb(data: bytes, at: int) -> tuple[int, int]:
     value = shift = 0
     while True:
         byte = data[at]
@@ -33,61 +43,78 @@ def uleb(data, at):
             return value, at
 
 
-def sleb(data, at):
+def sleb(data: bytes, at: int) -> tuple[int, int]:
     value, end = uleb(data, at)
     bits = 7 * (end - at)
     return value - (1 << bits if value >> (bits - 1) & 1 else 0), end
 
 
+# Of an entry with some number: the tag, whether there are children, and each attribute with its form and, if all
+# entries with this number have the same value, that.
+Abbreviation = tuple[int, bool, list[tuple[int, int, int | None]]]
+
+
+@dataclass
 class Unit:
-    """A compile unit: where its entries begin and end, and their abbreviations."""
+    """A compile unit: where it, its entries and its abbreviations begin."""
 
-    def __init__(self, start, first, end, version, abbreviations):
-        self.start, self.first, self.end = start, first, end
-        self.version, self.abbreviations, self.root = version, abbreviations, None
+    start: int
+    first: int
+    end: int
+    version: int
+    abbreviations: int
+    root: "Entry | None" = None
 
 
+@dataclass(eq=False)
 class Entry:
-    """An entry, with the form and the value of each attribute."""
-    __slots__ = ("unit", "at", "tag", "has_children", "values", "end")
+    """An entry, with the form and the value of each attribute that is a number, and the other ones that are blocks."""
 
-    def __init__(self, unit, at, tag, has_children, values, end):
-        self.unit, self.at, self.end = unit, at, end
-        self.tag, self.has_children, self.values = tag, has_children, values
+    unit: Unit
+    at: int
+    tag: int
+    has_children: bool
+    end: int = 0
+    numbers: dict[int, tuple[int, int]] = field(default_factory=dict)
+    blocks: dict[int, bytes] = field(default_factory=dict)
 
-    def __eq__(self, other):
+    def __eq__(self, other: object) -> bool:
         return isinstance(other, Entry) and self.at == other.at
 
-    def __hash__(self):
+    def __hash__(self) -> int:
         return hash(self.at)
 
-    def number(self, attribute, otherwise=None):
-        found = self.values.get(attribute)
-        return found[1] if found and isinstance(found[1], int) else otherwise
+    def has(self, attribute: int) -> bool:
+        return attribute in self.numbers or attribute in self.blocks
 
-    def block(self, attribute):
-        found = self.values.get(attribute)
-        return found[1] if found and found[0] in BLOCKS else None
+    def number(self, attribute: int) -> int | None:
+        found = self.numbers.get(attribute)
+        return found[1] if found else None
 
 
 class Dwarf:
-    def __init__(self, program):
-        self.elf = Elf(program)
-        self.info, self.abbrev = self.elf.section(".debug_info"), self.elf.section(".debug_abbrev")
-        self.kept, self.abbreviations, self.children_of = {}, {}, {}
-        self.units = list(self.read_units())
+    def __init__(self, elf: Elf) -> None:
+        self.elf = elf
+        self.info = self.abbrev = b""
+        self.kept: dict[str, bytes] = {}
+        self.abbreviations: dict[int, dict[int, Abbreviation]] = {}
+        self.children_of: dict[int, list[int]] = {}
+        self.units: list[Unit] = []
+        with contextlib.suppress(*UNREADABLE):
+            self.info, self.abbrev = elf.section(".debug_info"), elf.section(".debug_abbrev")
+            self.units = list(self.read_units())
         self.starts = [unit.start for unit in self.units]
 
-    def section(self, name):
+    def section(self, name: str) -> bytes:
         if name not in self.kept:
             self.kept[name] = self.elf.section(name)
         return self.kept[name]
 
-    def read_units(self):
+    def read_units(self) -> Iterator[Unit]:
         at = 0
         while at < len(self.info):
             length, version = struct.unpack_from("<IH", self.info, at)
-            if length >= 0xfffffff0:
+            if length >= 0xFFFFFFF0:
                 return
             kind = 1
             if version == 5:
@@ -98,12 +125,12 @@ class Dwarf:
                 yield Unit(at, at + (12 if version == 5 else 11), at + 4 + length, version, abbreviations)
             at += 4 + length
 
-    def unit_at(self, at):
+    def unit_at(self, at: int) -> Unit | None:
         number = bisect.bisect_right(self.starts, at) - 1
         return self.units[number] if number >= 0 and at < self.units[number].end else None
 
-    def table(self, start):
-        """The abbreviations that begin here: by number the tag, whether there are children, and the attributes."""
+    def table(self, start: int) -> dict[int, Abbreviation]:
+        """The abbreviations that begin here, by their numbers."""
         if start in self.abbreviations:
             return self.abbreviations[start]
         table, at = {}, start
@@ -118,8 +145,8 @@ class Dwarf:
         self.abbreviations[start] = table
         return table
 
-    def attributes(self, at):
-        found = []
+    def attributes(self, at: int) -> tuple[list[tuple[int, int, int | None]], int]:
+        found: list[tuple[int, int, int | None]] = []
         while True:
             attribute, at = uleb(self.abbrev, at)
             form, at = uleb(self.abbrev, at)
@@ -130,8 +157,8 @@ class Dwarf:
                 return found, at
             found.append((attribute, form, constant))
 
-    def value(self, form, at):
-        """The value of this form, and what follows it."""
+    def number(self, form: int, at: int) -> tuple[int, int]:
+        """The value of this form, and what follows it; of a text in the entry where it begins."""
         info = self.info
         if form in SIZES:
             end = at + SIZES[form]
@@ -142,42 +169,57 @@ class Dwarf:
             return sleb(info, at)
         if form == STRING:
             return at, info.index(b"\0", at) + 1
-        size, start = uleb(info, at) if BLOCKS[form] == 0 else (
-            int.from_bytes(info[at:at + BLOCKS[form]], "little"), at + BLOCKS[form])
-        return info[start:start + size], start + size
+        raise LookupError("an unknown form")
 
-    def entry(self, unit, at):
+    def block(self, form: int, at: int) -> tuple[bytes, int]:
+        width = BLOCKS[form]
+        size, start = (
+            (int.from_bytes(self.info[at : at + width], "little"), at + width) if width else uleb(self.info, at)
+        )
+        return self.info[start : start + size], start + size
+
+    def entry_or_end(self, unit: Unit, at: int) -> Entry | None:
         """The entry that begins here; None is the end of others' children."""
         number, end = uleb(self.info, at)
         if number == 0:
             return None
         tag, has_children, attributes = self.table(unit.abbreviations)[number]
-        values = {}
+        entry = Entry(unit, at, tag, has_children)
         for attribute, form, constant in attributes:
-            if form == IMPLICIT:
-                values[attribute] = (form, constant)
-                continue
             if form == INDIRECT:
                 form, end = uleb(self.info, end)
-            value, end = self.value(form, end)
-            values[attribute] = (form, value)
-        return Entry(unit, at, tag, has_children, values, end)
+            if constant is not None:
+                entry.numbers[attribute] = form, constant
+            elif form in BLOCKS:
+                entry.blocks[attribute], end = self.block(form, end)
+            else:
+                value, end = self.number(form, end)
+                entry.numbers[attribute] = form, value
+        entry.end = end
+        return entry
 
-    def root(self, unit):
+    def entry(self, unit: Unit, at: int) -> Entry:
+        found = self.entry_or_end(unit, at)
+        if found is None:
+            raise LookupError("no entry")
+        return found
+
+    def root(self, unit: Unit) -> Entry:
         unit.root = unit.root or self.entry(unit, unit.first)
         return unit.root
 
-    def children(self, entry):
+    def children(self, entry: Entry) -> list[int]:
         """Where the children of an entry begin."""
         if entry.at not in self.children_of:
             self.children_of[entry.at] = self.read_children(entry)[0] if entry.has_children else []
         return self.children_of[entry.at]
 
-    def read_children(self, entry):
+    def read_children(self, entry: Entry) -> tuple[list[int], int]:
         """Where they begin, and where they end."""
-        starts, at = [], entry.end
+        starts: list[int] = []
+        at = entry.end
         while at < entry.unit.end:
-            child = self.entry(entry.unit, at)
+            child = self.entry_or_end(entry.unit, at)
             if child is None:
                 return starts, at + 1
             starts.append(at)
@@ -188,84 +230,91 @@ class Dwarf:
                 at = self.read_children(child)[1] if child.has_children else child.end
         return starts, at
 
-    def each_child(self, entry):
+    def each_child(self, entry: Entry) -> Iterator[Entry]:
         return (self.entry(entry.unit, at) for at in self.children(entry))
 
-    def entry_around(self, at):
+    def entry_around(self, at: int) -> Entry | None:
         """The entry in whose attributes this is."""
         unit = self.unit_at(at)
-        found = unit and self.root(unit)
+        found = self.root(unit) if unit else None
         while found and at >= found.end:
             starts = self.children(found)
             number = bisect.bisect_right(starts, at) - 1
-            found = self.entry(unit, starts[number]) if number >= 0 else None
+            found = self.entry(found.unit, starts[number]) if number >= 0 else None
         return found
 
-    def referred(self, entry, attribute):
+    def referred(self, entry: Entry, attribute: int) -> Entry | None:
         """The entry to which an attribute refers."""
-        form, value = entry.values.get(attribute, (None, None))
+        form, value = entry.numbers.get(attribute, (0, 0))
         if form in REFERENCES:
             return self.entry(entry.unit, entry.unit.start + value)
         unit = self.unit_at(value) if form == GLOBAL_REFERENCE else None
-        return unit and self.entry(unit, value)
+        return self.entry(unit, value) if unit else None
 
-    def inherited(self, entry, attribute):
+    def inherited(self, entry: Entry | None, attribute: int) -> Entry | None:
         """The entry that has this attribute: this one, or what it completes."""
         for _ in range(8):
-            if entry is None or attribute in entry.values:
+            if entry is None or entry.has(attribute):
                 return entry
             entry = self.referred(entry, ORIGIN) or self.referred(entry, SPECIFICATION)
         return None
 
-    def name(self, entry):
-        entry = self.inherited(entry, NAME)
-        if entry is None:
+    def name(self, entry: Entry) -> str | None:
+        named = self.inherited(entry, NAME)
+        if named is None:
             return None
-        form, value = entry.values[NAME]
+        form, value = named.numbers[NAME]
         if form == STRING:
-            return self.elf.text_at(self.info, value)
+            return text_at(self.info, value)
         if form in INDEXED_STRINGS:
-            base = self.root(entry.unit).number(STRINGS_BASE, 8)
-            value, = struct.unpack_from("<I", self.section(".debug_str_offsets"), base + 4 * value)
+            base = self.base(named.unit, STRINGS_BASE, 8)
+            (value,) = struct.unpack_from("<I", self.section(".debug_str_offsets"), base + 4 * value)
         elif form not in (STRP, LINE_STRP):
             return None
-        return self.elf.text_at(self.section(".debug_line_str" if form == LINE_STRP else ".debug_str"), value)
+        return text_at(self.section(".debug_line_str" if form == LINE_STRP else ".debug_str"), value)
 
-    def address(self, entry, attribute):
-        form, value = entry.values.get(attribute, (None, None))
-        return self.indexed_address(entry.unit, value) if form in INDEXED_ADDRESSES else value
+    def base(self, unit: Unit, attribute: int, otherwise: int) -> int:
+        """Where the unit's part of a table begins, whose numbers its entries have."""
+        found = self.root(unit).number(attribute)
+        return otherwise if found is None else found
 
-    def indexed_address(self, unit, number):
-        base = self.root(unit).number(ADDRESSES_BASE, 8)
-        return struct.unpack_from("<Q", self.section(".debug_addr"), base + 8 * number)[0]
+    def address(self, entry: Entry, attribute: int) -> int | None:
+        form, value = entry.numbers.get(attribute, (0, None))
+        return self.indexed_address(entry.unit, value) if form in INDEXED_ADDRESSES and value is not None else value
 
-    def expressions(self, entry):
+    def indexed_address(self, unit: Unit, number: int) -> int:
+        (found,) = struct.unpack_from(
+            "<Q", self.section(".debug_addr"), self.base(unit, ADDRESSES_BASE, 8) + 8 * number
+        )
+        return int(found)
+
+    def expressions(self, entry: Entry) -> list[bytes]:
         """All that the location of an entry may be."""
-        if LOCATION not in entry.values:
+        if LOCATION in entry.blocks:
+            return [entry.blocks[LOCATION]]
+        if LOCATION not in entry.numbers:
             return []
-        form, value = entry.values[LOCATION]
-        if form in BLOCKS:
-            return [value]
+        form, value = entry.numbers[LOCATION]
         if entry.unit.version == 4:
             return list(self.old_list(value))
         if form == INDEXED_LIST:
-            base = self.root(entry.unit).number(LOCATIONS_BASE, 12)
+            base = self.base(entry.unit, LOCATIONS_BASE, 12)
             value = base + struct.unpack_from("<I", self.section(".debug_loclists"), base + 4 * value)[0]
         return list(self.new_list(value))
 
-    def old_list(self, at):
+    def old_list(self, at: int) -> Iterator[bytes]:
         data = self.section(".debug_loc")
         while True:
             first, end = struct.unpack_from("<QQ", data, at)
             at += 16
             if first == end == 0:
                 return
-            if first != 0xffffffffffffffff:
-                size, = struct.unpack_from("<H", data, at)
-                yield data[at + 2:at + 2 + size]
+            if first != 0xFFFFFFFFFFFFFFFF:
+                (size,) = struct.unpack_from("<H", data, at)
+                yield data[at + 2 : at + 2 + size]
                 at += 2 + size
 
-    def new_list(self, at):
+    def new_list(self, at: int) -> Iterator[bytes]:
         # By its kind, what an item of a list has before its expression: numbers, and addresses.
         before = {1: (1, 0), 2: (2, 0), 3: (2, 0), 4: (2, 0), 5: (0, 0), 6: (0, 1), 7: (0, 2), 8: (1, 1), 9: (2, 0)}
         data = self.section(".debug_loclists")
@@ -277,5 +326,5 @@ class Dwarf:
                 _, at = uleb(data, at)
             if kind not in (1, 6, 9):
                 size, at = uleb(data, at)
-                yield data[at:at + size]
+                yield data[at : at + size]
                 at += size

@@ -1,10 +1,16 @@
 """What the text calls functions: a lambda by the line where it begins, and a template without its long arguments."""
+from __future__ import annotations
+
 import functools
 import os
 import re
+from typing import TYPE_CHECKING
 
 from report import source_lines
-from tokens import tokens_of
+from report.source_lines import Position
+
+if TYPE_CHECKING:
+    from tokens import Token
 
 # What gcc and clang call a lambda.
 LAMBDA = re.compile(r"\{lambda\(|'lambda[0-9]*'|\$_[0-9]+\b")
@@ -15,7 +21,7 @@ MOST_ARGUMENTS, FOLDED = 12, "<..>"
 BEFORE_LAMBDA = {"return", "co_return", "co_yield", "case", "else", "do"}
 
 
-def without_arguments(name):
+def without_arguments(name: str) -> str:
     made, at = [], 0
     while at < len(name):
         operator = OPERATOR.match(name, at)
@@ -27,13 +33,13 @@ def without_arguments(name):
     return "".join(made)
 
 
-def function_of(position):
+def function_of(position: Position) -> str:
     """What the text calls the function of a position."""
     name = without_arguments(position.function)
     lambdas = list(LAMBDA.finditer(name))
-    if not lambdas or "operator()" not in name[lambdas[-1].start():]:
+    if not lambdas or "operator()" not in name[lambdas[-1].start() :]:
         return name
-    line, outer = line_of_lambda(position), name[:lambdas[0].start()].rstrip(":")
+    line, outer = line_of_lambda(position), name[: lambdas[0].start()].rstrip(":")
     outer = outer.removeprefix("decltype(auto) ").removeprefix("auto ")
     if line:
         return f"lambda at {os.path.basename(position.file)}:{line}"
@@ -41,30 +47,30 @@ def function_of(position):
     return outer if source_lines.lines_of(position.file) else f"lambda in {outer}"
 
 
-def line_of_lambda(position):
+def line_of_lambda(position: Position) -> int | None:
     """Where the innermost lambda around a line begins, or None."""
     around = [first for first, last in lambdas_of(position.file) if first <= position.line <= last]
     return max(around, default=None)
 
 
 @functools.lru_cache
-def lambdas_of(file):
+def lambdas_of(file: str) -> list[tuple[int, int]]:
     """The first and the last line of each lambda of a source."""
+    from tokens import tokens_of
+
     tokens = tokens_of(source_lines.without_comments("\n".join(source_lines.lines_of(file))))
-    found = []
-    for at, token in enumerate(tokens):
-        body = body_of_lambda(tokens, at) if token.text == "[" and token.partner else None
-        if body is not None:
-            found.append((token.line, tokens[tokens[body].partner].line))
-    return found
+    ends = ((token, end_of_lambda(tokens, at)) for at, token in enumerate(tokens) if token.text == "[")
+    return [(token.line, tokens[end].line) for token, end in ends if end is not None]
 
 
-def body_of_lambda(tokens, opening):
-    """The brace that opens the body of the lambda that begins here, or None where none does."""
-    before = tokens[opening - 1] if opening > 0 else None
+def end_of_lambda(tokens: list[Token], opening: int) -> int | None:
+    """The brace that closes the body of the lambda that begins here, or None where none does."""
+    before, at = tokens[opening - 1] if opening > 0 else None, tokens[opening].partner
     if before and (before.text in (")", "]", "[") or (before.kind == "word" and before.text not in BEFORE_LAMBDA)):
         return None
-    at = tokens[opening].partner + 1
-    while at < len(tokens) and tokens[at].text not in ("{", "}", ";", ",", ")", "]", "="):
-        at = tokens[at].partner + 1 if tokens[at].text in ("(", "[") and tokens[at].partner else at + 1
-    return at if at < len(tokens) and tokens[at].text == "{" and tokens[at].partner else None
+    while at is not None and at + 1 < len(tokens):
+        at += 1
+        if tokens[at].text in ("{", "}", ";", ",", ")", "]", "="):
+            return tokens[at].partner if tokens[at].text == "{" else None
+        at = tokens[at].partner if tokens[at].text in ("(", "[") else at
+    return None

@@ -1,6 +1,6 @@
 """What a traced program says of its run: a line for each record, `NAME [WORD ..]: TEXT`, in the pipe that SPBAGS_SAYS
-names. spbags-run goes by the names and the words; the text is for people. In a text `<code 0x..>` stands for the line of the
-source that has this code.
+names. spbags-run goes by the names and the words; the text is for people. In a text `<code 0x..>` stands for the line
+of the source that has this code.
 
     fault                 there is no answer, and the text says why
     fault closed          the same, since nobody read the trace any more
@@ -24,26 +24,33 @@ import contextlib
 import os
 import re
 import threading
-from collections import namedtuple
+from collections.abc import Callable, Iterable
+from typing import NamedTuple
 
 from report import source_lines
 from report.failure import Failure
 
-Record = namedtuple("Record", "name words text")
+
+class Record(NamedTuple):
+    name: str
+    words: list[str]
+    text: str
+
+
 CODE = re.compile("<code (0x[0-9a-f]+)>")
 
 
-def record_of(line):
+def record_of(line: str) -> Record:
     head, _, text = line.partition(": ")
     name, *words = head.removesuffix(":").split(" ")
     return Record(name, words, text)
 
 
-def texts_of(records, name):
+def texts_of(records: Iterable[Record], name: str) -> list[str]:
     return [record.text for record in records if record.name == name]
 
 
-def with_lines(program, texts):
+def with_lines(program: str, texts: list[str]) -> list[str]:
     """The texts with lines of the source in place of codes, each once."""
     codes = {int(code, 16) + 1 for text in texts for code in CODE.findall(text)}
     try:
@@ -51,22 +58,25 @@ def with_lines(program, texts):
     except Failure:
         positions = {}
 
-    def line_of(match):
+    def line_of(match: re.Match[str]) -> str:
         position = positions.get(int(match[1], 16) + 1, [source_lines.UNKNOWN])[-1]
         return f"{position.file}:{position.line}" if position.line > 0 else f"address {match[1]}"
+
     return list(dict.fromkeys(CODE.sub(line_of, text) for text in texts))
 
 
 class Said(threading.Thread):
     """The records, which are read as they come. Those that can't wait for the report go to a function at once."""
+
     END = "\nend\n"
 
-    def __init__(self, tell):
+    def __init__(self, tell: Callable[[str, list[int]], None]) -> None:
         super().__init__(daemon=True)
-        self.tell, self.records = tell, []
+        self.tell = tell
+        self.records: list[Record] = []
         self.out, self.into = os.pipe()
 
-    def run(self):
+    def run(self) -> None:
         with open(self.out, encoding="utf-8", errors="replace") as file:
             for line in map(str.rstrip, file):
                 if line == self.END.strip():
@@ -78,7 +88,7 @@ class Said(threading.Thread):
                 else:
                     self.records.append(record)
 
-    def end(self):
+    def end(self) -> list[Record]:
         """All records of the program, which has ended. A process that it made may still have the pipe."""
         os.write(self.into, self.END.encode())
         self.join()

@@ -15,11 +15,11 @@ PATIENCE, STEP = 2, 1
 ERASE, DOWN, BACK = "\033[J", "\033D\033M\0337\r\n\033[2m", "\033[0m\0338"
 
 
-def is_wanted():
+def is_wanted() -> bool:
     return os.isatty(2) and os.environ.get("TERM") != "dumb"
 
 
-def spelled(number):
+def spelled(number: int) -> str:
     if number < 1e6:
         return f"{number:,}"
     return f"{number / 1e6:.1f} million" if number < 1e7 else f"{number / 1e6:,.0f} million"
@@ -28,15 +28,19 @@ def spelled(number):
 class Progress:
     """The line; without a terminal nothing comes of it."""
 
-    def __init__(self):
-        self.file = self.page = self.thread = self.what = None
-        self.lock, self.began, self.more, self.is_shown = threading.Lock(), 0, "", False
+    def __init__(self) -> None:
+        self.lock, self.began, self.more, self.is_shown = threading.Lock(), 0.0, "", False
+        self.what: str | None = None
+        self.thread: threading.Thread | None = None
+        # The file that the hooks write, and its page.
+        self.file: int | None = None
+        self.page: mmap.mmap | None = None
         if is_wanted():
             self.file = os.memfd_create("spbags")
             os.truncate(self.file, mmap.PAGESIZE)
             self.page = mmap.mmap(self.file, mmap.PAGESIZE)
 
-    def begin(self, what, more=""):
+    def begin(self, what: str, more: str = "") -> None:
         """What is done now, and what else is known of it. The first call makes a thread that has this one's signals."""
         if not self.page:
             return
@@ -45,34 +49,31 @@ class Progress:
             TAKEN.pack_into(self.page, 0, 0, 0)
             self.what, self.more, self.began = what, more, time.monotonic()
         if not self.thread:
-            self.thread = threading.Thread(target=self.run, daemon=True)
+            self.thread = threading.Thread(target=self.run, args=(self.page,), daemon=True)
             self.thread.start()
 
-    def erase(self):
+    def erase(self) -> None:
         """Another line comes."""
         with self.lock:
             self.write("")
 
-    def end(self):
+    def end(self) -> None:
         """Nothing is done any more that takes long."""
         with self.lock:
             self.what = None
             self.write("")
 
-    def run(self):
+    def run(self, page: mmap.mmap) -> None:
         while True:
             time.sleep(STEP)
             with self.lock:
                 seconds = time.monotonic() - self.began
                 if self.what and seconds >= PATIENCE:
-                    self.write(self.line(seconds))
+                    _, accesses = TAKEN.unpack_from(page)
+                    parts = [f"{seconds:.0f} s", f"{spelled(accesses)} accesses" if accesses > 0 else "", self.more]
+                    self.write(f"{self.what}: {', '.join(filter(None, parts))}")
 
-    def line(self, seconds):
-        _, accesses = TAKEN.unpack_from(self.page)
-        parts = [f"{seconds:.0f} s", f"{spelled(accesses)} accesses" if accesses > 0 else "", self.more]
-        return f"{self.what}: {', '.join(filter(None, parts))}"
-
-    def write(self, line):
+    def write(self, line: str) -> None:
         """This line in place of the one that is shown, or none."""
         with contextlib.suppress(OSError):
             shown = f"{DOWN}{line[:(os.get_terminal_size(2).columns or 80) - 1]}{BACK}" if line else ""

@@ -1,42 +1,55 @@
 """Runs of a traced program: with its trace into `spbags check`, and with a look at the races' places."""
+from __future__ import annotations
+
 import ctypes
 import os
-import select
-import shutil
 import signal
-import stat
 import struct
 import subprocess
 import threading
 import time
-from collections import namedtuple
+from collections.abc import Callable, Iterable
+from typing import IO, TYPE_CHECKING, BinaryIO, NamedTuple
 
 import installation
 from report import source_lines
 from report.failure import Failure
-from report.messages import Said, texts_of, with_lines
+from report.messages import Record, Said, texts_of, with_lines
+from report.program_input import Input
+from report.progress import Progress
+
+if TYPE_CHECKING:
+    from report.checker_answers import Race
 
 # What the hooks of a program have in them that says such records, and those with the detector inside.
 MARK, INSIDE = b"SPBAGS_RECORDS", b"SPBAGS_INSIDE"
 PERSONALITY, ADDR_NO_RANDOMIZE = ctypes.CDLL(None).personality, 0x0040000
 MOST_DEPTH = "1000000"
 # What the environment of each run has.
-OURS = [f"SPBAGS_{name}" for name in ("PLACES", "TRACE", "REPORT", "EXITCODE", "LOOK", "DIVIDE", "LAST",
-                                     "WAITED", "PROGRESS", "HELP", "ROOM")]
+OWN = "PLACES TRACE REPORT EXITCODE LOOK DIVIDE LAST WAITED PROGRESS HELP ROOM"
+OURS = [f"SPBAGS_{name}" for name in OWN.split()]
 
 
-def checker():
+def checker() -> str:
     """The program `spbags`, which SPBAGS names, or else the one that is built or installed here."""
     named = os.environ.get("SPBAGS") or installation.PROGRAM
     if not os.access(named, os.X_OK) or not os.path.isfile(named):
-        raise Failure("spbags isn't built: run ./build in its repository, which takes some ten minutes, or set SPBAGS to "
-                      "the program")
+        raise Failure(
+            "spbags isn't built: run ./build in its repository, which takes some ten minutes, or set SPBAGS to "
+            "the program"
+        )
     return os.path.realpath(named)
 
 
-def traceable(name):
+def program_named(name: str) -> str | None:
+    """The file that a command of this name starts, or None."""
+    names = [name] if os.path.dirname(name) else [os.path.join(folder, name) for folder in os.get_exec_path()]
+    return next((found for found in names if os.path.isfile(found) and os.access(found, os.X_OK)), None)
+
+
+def traceable(name: str) -> tuple[str, bool]:
     """The program of this name, if spbags-cc has compiled it, and whether the detector is inside."""
-    found = shutil.which(name)
+    found = program_named(name)
     if not found:
         raise Failure(f"{name}: there is no such program")
     with open(found, "rb") as file:
@@ -46,98 +59,20 @@ def traceable(name):
     return found, INSIDE in code
 
 
-class Input:
-    """The standard input, which each run gets from where it stands now. What comes through a pipe is kept in a file
-    without a name: as a whole where it ends soon, and else while the first run reads it."""
-    PATIENCE = 0.3
-    MOST = 1 << 26
-    PIECE = 1 << 16
-
-    def __init__(self):
-        self.kept, self.stop, self.thread, self.fault = None, None, None, None
-        try:
-            kind = os.fstat(0).st_mode
-        except OSError:
-            self.file = os.open(os.devnull, os.O_RDONLY)
-            kind = os.fstat(self.file).st_mode
-        else:
-            self.file = 0
-        self.start = os.lseek(0, 0, os.SEEK_CUR) if stat.S_ISREG(kind) else None
-        if stat.S_ISFIFO(kind) or stat.S_ISSOCK(kind) or os.isatty(self.file):
-            self.kept = disk_file()
-            self.file, self.start, self.ended = self.kept.fileno(), 0, not os.isatty(self.file) and self.keep()
-
-    def keep(self):
-        """Whether all of it came."""
-        came = 0
-        while came < self.MOST and select.select([0], [], [], self.PATIENCE)[0]:
-            piece = os.read(0, self.PIECE)
-            if not piece:
-                return True
-            came += self.kept.write(piece)
-        return False
-
-    def begin(self):
-        """The descriptor for a run that begins."""
-        if self.start is not None:
-            os.lseek(self.file, self.start, os.SEEK_SET)
-        if self.kept is None or self.ended:
-            return os.dup(self.file)
-        self.ended = True
-        given, to = os.pipe()
-        stopped, self.stop = os.pipe()
-        self.thread = threading.Thread(target=self.pump, args=(to, stopped), daemon=True)
-        self.thread.start()
-        return given
-
-    def pump(self, to, stopped):
-        try:
-            while piece := os.read(self.file, self.PIECE):
-                write_all(to, piece)
-            while stopped not in select.select([0, stopped], [], [])[0] and (piece := os.read(0, self.PIECE)):
-                self.kept.write(piece)
-                write_all(to, piece)
-        except BrokenPipeError:
-            pass
-        except OSError as error:
-            self.fault = error
-        os.close(to)
-
-    def end(self):
-        """The run has ended."""
-        if self.thread:
-            os.close(self.stop)
-            self.thread.join()
-            self.thread = None
-        if self.fault:
-            raise self.fault
-
-
-def write_all(to, piece):
-    while piece:
-        piece = piece[os.write(to, piece):]
-
-
-class Pipe:
-    def __init__(self):
-        self.out, self.into = os.pipe()
-
-    def close(self, *ends):
-        for end in ends or ("out", "into"):
-            if getattr(self, end) is not None:
-                os.close(getattr(self, end))
-                setattr(self, end, None)
-
-
-def length_of(environment):
-    return sum(len(os.fsencode(name)) + len(os.fsencode(value)) + 2 for name, value in environment.items())
+def length_of(environment: Iterable[tuple[str, str]]) -> int:
+    return sum(len(os.fsencode(name)) + len(os.fsencode(value)) + 2 for name, value in environment)
 
 
 # What may come while a process runs. It is pending until it is asked for. A terminal's signals are the program's too.
 AWAITED = {signal.SIGCHLD, signal.SIGINT, signal.SIGTERM}
+Process = subprocess.Popen[bytes]
 
 
-def wait_for(process, seconds=None, hears=lambda came: came.si_code <= 0):
+def wait_for(
+    process: Process,
+    seconds: float | None = None,
+    hears: Callable[[signal.struct_siginfo], bool] = lambda came: came.si_code <= 0,
+) -> int | None:
     """Waits until the process has ended, which gives None; until such a signal has come, which gives its number; or, as
     0, until the time is over."""
     end = time.monotonic() + (threading.TIMEOUT_MAX if seconds is None else seconds)
@@ -151,26 +86,31 @@ def wait_for(process, seconds=None, hears=lambda came: came.si_code <= 0):
     return None
 
 
-def prepare_program(mask):
+def prepare_program(mask: Iterable[int]) -> None:
     """In the program's process: signals end it, and addresses are alike in all runs, as far as the system lets us."""
     signal.signal(signal.SIGINT, signal.SIG_DFL)
     signal.pthread_sigmask(signal.SIG_SETMASK, mask)
-    PERSONALITY(ctypes.c_ulong(PERSONALITY(ctypes.c_ulong(0xffffffff)) | ADDR_NO_RANDOMIZE))
+    PERSONALITY(ctypes.c_ulong(PERSONALITY(ctypes.c_ulong(0xFFFFFFFF)) | ADDR_NO_RANDOMIZE))
 
 
-# A function that nothing is known of, the library or the file that has it, and how often it was called.
-Unseen = namedtuple("Unseen", "function library calls")
+class Unseen(NamedTuple):
+    """A function that nothing is known of, the library or the file that has it, and how often it was called."""
+
+    function: str
+    library: str
+    calls: int
 
 
-def unseen_of(record):
-    calls, *library = record.words
-    return Unseen(source_lines.demangled(record.text), " ".join(library), int(calls))
+def unseen_of(records: list[Record]) -> list[Unseen]:
+    named = [record for record in records if record.name == "unseen"]
+    shown = source_lines.demangled(record.text for record in named)
+    return [Unseen(shown[record.text], " ".join(record.words[1:]), int(record.words[0])) for record in named]
 
 
 class Run:
     """What came of a run: the program's status, its records, and the file with the answer."""
 
-    def __init__(self, status, cut, records, answer, program):
+    def __init__(self, status: int, cut: str | None, records: list[Record], answer: BinaryIO, program: str) -> None:
         # Why spbags-run ended it, where it did.
         self.status, self.cut, self.answer = status, cut, answer
         self.named = {record.name: record for record in reversed(records)}
@@ -178,22 +118,28 @@ class Run:
         self.closed = [record.text for record in records if record.name == "fault" and record.words == ["closed"]]
         self.faults = with_lines(program, texts_of(records, "fault"))
         # What wasn't seen or modelled, in sentences and functions; and of which races some may be none.
-        self.incomplete, self.waits, self.seeming = (with_lines(program, texts_of(records, name))
-                                                     for name in ("incomplete", "waits", "seeming"))
-        self.unseen = [unseen_of(record) for record in records if record.name == "unseen"]
+        self.incomplete, self.waits, self.seeming = (
+            with_lines(program, texts_of(records, name)) for name in ("incomplete", "waits", "seeming")
+        )
+        self.unseen = unseen_of(records)
 
-    def has_races(self):
+    def has_races(self) -> bool:
         self.answer.seek(0)
         return self.answer.readline() != b"races 0\n"
 
-    def words(self, name):
-        """Those of the record with this name, or None."""
-        return self.named[name].words if name in self.named else None
+    def lines(self, keepends: bool = False) -> list[str]:
+        """Those of the answer."""
+        self.answer.seek(0)
+        return self.answer.read().decode(errors="replace").splitlines(keepends)
 
-    def is_whole(self):
+    def words(self, name: str) -> list[str]:
+        """Those of the record with this name, if it is there."""
+        return self.named[name].words if name in self.named else []
+
+    def is_whole(self) -> bool:
         return self.status >= 0 and "end" not in self.named and not self.cut
 
-    def ending(self):
+    def ending(self) -> str:
         """Why a run isn't whole."""
         if self.cut:
             return self.cut
@@ -202,18 +148,12 @@ class Run:
         return self.named["end"].text
 
 
-def disk_file():
-    """A file without a name."""
-    import tempfile
-    return tempfile.TemporaryFile(buffering=0)
-
-
-def memory_file():
+def memory_file() -> BinaryIO:
     """A file that is on no disk."""
     return open(os.memfd_create("spbags"), "w+b")
 
 
-def file_of(numbers):
+def file_of(numbers: list[int]) -> BinaryIO:
     """A file with these, of 8 bytes each."""
     file = memory_file()
     file.write(struct.pack(f"<{len(numbers)}Q", *numbers))
@@ -221,26 +161,36 @@ def file_of(numbers):
     return file
 
 
-def stops_of(races):
+def stops_of(races: Iterable[Race]) -> BinaryIO:
     """The races as a program takes them that looks at their places: the number of races, then by locations the location
-    and twice the place of each access, and one more if it writes; then of each access, by places, the place and the number
-    of its race."""
+    and twice the place of each access, and one more if it writes; then of each access, by places, the place and the
+    number of its race."""
     ordered = sorted(races)
     numbers = [len(ordered)]
-    for location, *accesses in ordered:
-        numbers += [location, *(2 * place + (kind == "write") for kind, place in accesses)]
-    stops = sorted((place, number) for number, (_, *accesses) in enumerate(ordered) for _, place in accesses)
+    for race in ordered:
+        numbers += [race.location, *(2 * access.place + (access.kind == "write") for access in race.accesses)]
+    stops = sorted((access.place, number) for number, race in enumerate(ordered) for access in race.accesses)
     return file_of([*numbers, *(number for stop in stops for number in stop)])
 
 
 class Runner:
     """Runs one program, again and again with the same words and the same input."""
+
     ROOM = 1 << 14
     # What ends a program that others don't end: the hooks' own signal, and the system's; and how many seconds it has.
     OTHER_ENDS = ((63, 60), (signal.SIGKILL, None))
     PATIENCE = 5
 
-    def __init__(self, words, checking, settings, output, seconds, tell, progress):
+    def __init__(
+        self,
+        words: list[str],
+        checking: list[str],
+        settings: dict[str, str],
+        output: IO[str] | None,
+        seconds: float | None,
+        tell: Callable[[str, list[int]], None],
+        progress: Progress,
+    ) -> None:
         """The program may run for so many seconds, or for ever; its lines that can't wait go to the function `tell`."""
         program, self.is_inside = traceable(words[0])
         self.words, self.settings, self.output = [program, *words[1:]], settings, output
@@ -248,52 +198,66 @@ class Runner:
         self.limit = seconds
         self.mask = signal.pthread_sigmask(signal.SIG_BLOCK, AWAITED)
         self.input = Input()
-        self.program, self.has_run, self.number = None, False, 0
+        self.has_run, self.number = False, 0
         # What each run gets beside its own files.
-        self.files = {}
+        self.files: dict[str, int] = {}
 
-    def execute(self, said, files, silent, more="", **settings):
+    def execute(self, said: Said, files: dict[str, int], silent: bool, more: str = "", **settings: str) -> Process:
         """Starts the program, whose lines about the run go into a pipe. It gets descriptors of these files, by the
         variables that name them. The progress says MORE."""
         self.number += 1
         self.progress.begin(f"run {self.number}", more)
-        files = {**self.files, **files, **({"SPBAGS_PROGRESS": self.progress.file} if self.progress.file else {})}
-        ours = {"SPBAGS_MAX_BYTES": os.environ.get("SPBAGS_MAX_BYTES", ""), **dict.fromkeys(OURS, ""), **self.settings,
-                **settings, "SPBAGS_SAYS": f"fd:{said.into}",
-                **{variable: f"fd:{file}" for variable, file in files.items()}}
-        # All runs have as long an environment, of as many variables: the program's words lie before it, and setenv
-        # makes a copy. The program's own come first, so that they lie at the same addresses.
-        wanted = {**{name: value for name, value in os.environ.items() if name not in ours}, **ours}
-        wanted["SPBAGS_ROOM"] = "." * (self.ROOM + length_of(os.environ) - length_of(wanted))
+        shown = {} if self.progress.file is None else {"SPBAGS_PROGRESS": self.progress.file}
+        files = {**self.files, **files, **shown}
         given = self.input.begin()
         try:
-            self.program = subprocess.Popen(
-                self.words, stdin=given, stdout=subprocess.DEVNULL if silent else self.output,
-                stderr=subprocess.DEVNULL if silent else None, pass_fds=(said.into, *files.values()), env=wanted,
-                preexec_fn=lambda: prepare_program(self.mask))
+            program = subprocess.Popen(
+                self.words,
+                stdin=given,
+                stdout=subprocess.DEVNULL if silent else self.output,
+                stderr=subprocess.DEVNULL if silent else None,
+                pass_fds=(said.into, *files.values()),
+                env=self.environment(said, files, settings),
+                preexec_fn=lambda: prepare_program(self.mask),
+            )
         except OSError as error:
             raise Failure(f"{self.words[0]}: {error.strerror}") from error
         finally:
             os.close(given)
         said.start()
+        return program
 
-    def wait(self, said):
-        """The program's status, why it was ended, and the hooks' lines."""
+    def environment(self, said: Said, files: dict[str, int], settings: dict[str, str]) -> dict[str, str]:
+        """All runs have as long an environment, of as many variables: the program's words lie before it, and setenv
+        makes a copy. The program's own come first, so that they lie at the same addresses."""
+        ours = {
+            "SPBAGS_MAX_BYTES": os.environ.get("SPBAGS_MAX_BYTES", ""),
+            **dict.fromkeys(OURS, ""),
+            **self.settings,
+            **settings,
+            "SPBAGS_SAYS": f"fd:{said.into}",
+            **{variable: f"fd:{file}" for variable, file in files.items()},
+        }
+        wanted = {**{name: value for name, value in os.environ.items() if name not in ours}, **ours}
+        return {**wanted, "SPBAGS_ROOM": "." * (self.ROOM + length_of(os.environ.items()) - length_of(wanted.items()))}
+
+    def wait(self, program: Process, said: Said, answer: BinaryIO) -> Run:
+        """The run, when the program has ended; but the answer may not be there yet."""
         began = time.monotonic()
-        number = wait_for(self.program, self.limit)
+        number = wait_for(program, self.limit)
         cut = self.cut(number)
         # Other runs may take longer than the first one, but not for ever, which they may on another course.
         if not self.has_run:
             taken = time.monotonic() - began
             self.limit, self.has_run = 4 * taken + 10 if cut else 20 * taken + 60, True
         for end, patience in ((number or signal.SIGTERM, self.PATIENCE), *self.OTHER_ENDS):
-            if self.program.returncode is None:
-                self.program.send_signal(end)
-                wait_for(self.program, patience, lambda came: False)
+            if program.returncode is None:
+                program.send_signal(end)
+                wait_for(program, patience, lambda came: False)
         self.input.end()
-        return self.program.returncode, cut, said.end()
+        return Run(program.returncode, cut, said.end(), answer, self.words[0])
 
-    def cut(self, number):
+    def cut(self, number: int | None) -> str | None:
         """Why the program is ended, by what `wait_for` gives."""
         if number is None:
             return None
@@ -302,89 +266,95 @@ class Runner:
             return f"the program was ended after {self.limit:.4g} seconds, {why}"
         return f"the program was ended by signal {number} ({signal.strsignal(number)}), which was sent to spbags-run"
 
-    def found(self, keep, silent, files, **settings):
+    def found(self, keep: str | None, silent: bool, files: dict[str, int], **settings: str) -> Run:
         """A run and its report: by the detector inside, or where there is none or the trace is kept, by `spbags check`.
         Where the trace isn't kept, these files go to the program."""
         if keep:
             return self.kept(keep, silent, **settings)
         return self.reported(silent, files, **settings) if self.is_inside else self.checked(silent, files, **settings)
 
-    def reported(self, silent, files, **settings):
+    def reported(self, silent: bool, files: dict[str, int], **settings: str) -> Run:
         """A run whose detector is inside, and its report."""
         said, answer = Said(self.tell), memory_file()
-        self.execute(said, {"SPBAGS_REPORT": answer.fileno(), **files}, silent, **settings)
-        run = Run(*self.wait(said), answer, self.words[0])
-        self.refuse_broken(run)
+        program = self.execute(said, {"SPBAGS_REPORT": answer.fileno(), **files}, silent, **settings)
+        run = self.wait(program, said, answer)
+        refuse_broken(run)
         if os.fstat(answer.fileno()).st_size == 0:
             how = run.ending() if run.status < 0 else f"the program ended with status {run.status}"
             raise Failure(f"{how}, and there is no report")
         return run
 
-    def check(self, trace, source):
+    def check(self, trace: str, source: int | None, answer: BinaryIO, faults: BinaryIO) -> Process:
         """`spbags check` of a trace, and the files of its report and of its faults."""
         command = [checker(), "check", "--depth", MOST_DEPTH, *self.checking, trace]
-        answer, faults = memory_file(), memory_file()
-        return subprocess.Popen(command, stdin=source, stdout=answer, stderr=faults), answer, faults
+        return subprocess.Popen(command, stdin=source, stdout=answer, stderr=faults)
 
-    def kept(self, trace, silent, **settings):
+    def kept(self, trace: str, silent: bool, **settings: str) -> Run:
         """A run whose trace and places are kept, and the report."""
-        said = Said(self.tell)
+        said, answer, faults = Said(self.tell), memory_file(), memory_file()
         checker()
-        self.execute(said, {}, silent, **{**settings, "SPBAGS_TRACE": trace, "SPBAGS_PLACES": trace + ".places"})
-        run = Run(*self.wait(said), None, self.words[0])
-        self.refuse_broken(run)
-        return self.answered(run, *self.check(trace, None))
+        settings |= {"SPBAGS_TRACE": trace, "SPBAGS_PLACES": trace + ".places"}
+        run = self.wait(self.execute(said, {}, silent, **settings), said, answer)
+        refuse_broken(run)
+        return answered(run, self.check(trace, None, answer, faults), faults)
 
-    def checked(self, silent, files, **settings):
+    def checked(self, silent: bool, files: dict[str, int], **settings: str) -> Run:
         """A run whose trace goes through a pipe, and the report."""
-        said, trace = Said(self.tell), Pipe()
-        check = self.check("-", trace.out)
-        trace.close("out")
-        self.execute(said, {"SPBAGS_TRACE": trace.into, **files}, silent, **settings)
-        trace.close("into")
-        return self.answered(Run(*self.wait(said), None, self.words[0]), *check)
+        said, answer, faults = Said(self.tell), memory_file(), memory_file()
+        out, into = os.pipe()
+        check = self.check("-", out, answer, faults)
+        os.close(out)
+        program = self.execute(said, {"SPBAGS_TRACE": into, **files}, silent, **settings)
+        os.close(into)
+        return answered(self.wait(program, said, answer), check, faults)
 
-    def answered(self, run, check, answer, faults):
-        """The run with its report, when its checker has ended."""
-        run.answer = answer
-        number = self.wait_for_checker(check)
-        if number:
-            raise Failure(f"{signal.strsignal(number)}: spbags was ended before it had an answer")
-        faults.seek(0)
-        fault = faults.read().decode(errors="replace").strip()
-        if check.returncode not in (0, 1):
-            self.explain_fault(run, fault or f"spbags ended with status {check.returncode}")
-        return run
-
-    @staticmethod
-    def wait_for_checker(check):
-        """A signal that comes meanwhile ends it, and gives its number."""
-        while signal.sigtimedwait(AWAITED, 0):
-            pass
-        number = wait_for(check, None, lambda came: True)
-        if number:
-            check.kill()
-            check.wait()
-        return number
-
-    @staticmethod
-    def refuse_broken(run):
-        """What a program that failed leaves in a file is no trace, and may be no file."""
-        if run.faults:
-            raise Failure(run.faults[0])
-
-    @staticmethod
-    def explain_fault(run, fault):
-        """The program's fault says why the trace isn't whole; but not where the checker ended first."""
-        own = [text for text in run.faults if text not in run.closed]
-        if own:
-            raise Failure(own[0])
-        raise Failure(f"{run.ending()}, and its trace is incomplete" if run.status < 0 and not run.faults else fault)
-
-    def looked(self, races, files, **settings):
+    def looked(self, races: list[Race], files: dict[str, int], **settings: str) -> Run:
         """A run that looks at the places of these races, and its notes."""
         said, notes = Said(self.tell), memory_file()
         with stops_of(races) as stops:
-            self.execute(said, {"SPBAGS_TRACE": notes.fileno(), "SPBAGS_LOOK": stops.fileno(), **files}, True,
-                         f"{len(races):,} race{'' if len(races) == 1 else 's'}", SPBAGS_MAX_BYTES=str(1 << 62), **settings)
-        return Run(*self.wait(said), notes, self.words[0])
+            program = self.execute(
+                said,
+                {"SPBAGS_TRACE": notes.fileno(), "SPBAGS_LOOK": stops.fileno(), **files},
+                True,
+                f"{len(races):,} race{'' if len(races) == 1 else 's'}",
+                SPBAGS_MAX_BYTES=str(1 << 62),
+                **settings,
+            )
+        return self.wait(program, said, notes)
+
+
+def answered(run: Run, check: Process, faults: BinaryIO) -> Run:
+    """The run with its report, when its checker has ended."""
+    number = wait_for_checker(check)
+    if number:
+        raise Failure(f"{signal.strsignal(number)}: spbags was ended before it had an answer")
+    faults.seek(0)
+    fault = faults.read().decode(errors="replace").strip()
+    if check.returncode not in (0, 1):
+        explain_fault(run, fault or f"spbags ended with status {check.returncode}")
+    return run
+
+
+def wait_for_checker(check: Process) -> int | None:
+    """A signal that comes meanwhile ends it, and gives its number."""
+    while signal.sigtimedwait(AWAITED, 0):
+        pass
+    number = wait_for(check, None, lambda came: True)
+    if number:
+        check.kill()
+        check.wait()
+    return number
+
+
+def refuse_broken(run: Run) -> None:
+    """What a program that failed leaves in a file is no trace, and may be no file."""
+    if run.faults:
+        raise Failure(run.faults[0])
+
+
+def explain_fault(run: Run, fault: str) -> None:
+    """The program's fault says why the trace isn't whole; but not where the checker ended first."""
+    own = [text for text in run.faults if text not in run.closed]
+    if own:
+        raise Failure(own[0])
+    raise Failure(f"{run.ending()}, and its trace is incomplete" if run.status < 0 and not run.faults else fault)

@@ -1,31 +1,34 @@
-"""Where code addresses and variables of a program stand in its source, by addr2line and nm of binutils."""
-import bisect
+"""Where code addresses of a program stand in its source, by addr2line of binutils, and what stands there."""
 import functools
 import os
 import re
 import subprocess
-from collections import namedtuple
+from collections.abc import Iterable
+from typing import NamedTuple
 
-from report.failure import Failure
 from installation import SYSTEM, is_own
+from report.failure import Failure
 
 
-class Position(namedtuple("Position", "file line function")):
+class _Position(NamedTuple):
+    file: str
+    line: int
+    function: str
+
+
+class Position(_Position):
     """A function, and a line of it; the line is 0 where it isn't known."""
+
     # What of a spawn of C++ this is: the function that its statement becomes, or what this calls for the child.
     STATEMENT, WAY = "statement", "way"
-    part = None
+    part: str | None = None
 
-
-Variable = namedtuple("Variable", "name offset size")
 
 UNKNOWN = Position("?", 0, "?")
 # What a compiler puts behind the name of a function when it makes others of its parts.
 OUTLINED = re.compile(r"(?:\._omp_(?:cpy)?fn\.[0-9]+| \[clone [^]]*\])+$")
 # What clang makes of a loop's body.
 CAPTURED = re.compile(r"__captured_stmt(?:\.[0-9]+)?")
-# The lock of a critical region of OpenMP: gcc's, and clang's, which has one too if the region has no name.
-CRITICAL = re.compile(r"\.gomp_critical_user_(.*?)(?:\.var)?")
 # What the plugin calls functions that call others that OpenMP is made into.
 CALLER = "__spbags_outlined"
 # A comment; or a string or a character, which may look like one inside.
@@ -34,7 +37,7 @@ COMMENT = re.compile(r"//[^\n]*|/\*(?:.|\n)*?\*/|\"(?:\\.|[^\"\\\n])*\"|'(?:\\.|
 SPAWNED, ON_THE_WAY = "::{lambda(__spbags_spawned", "__spbags_"
 
 
-def asked(*command, given=""):
+def asked(*command: str, given: str = "") -> str:
     """What a program of binutils answers."""
     try:
         answer = subprocess.run(command, input=given, capture_output=True, text=True, errors="surrogateescape")
@@ -45,22 +48,27 @@ def asked(*command, given=""):
     return answer.stdout
 
 
-def demangled(name):
-    return asked("c++filt", given=name).strip() if name.startswith("_Z") else name
+def demangled(names: Iterable[str]) -> dict[str, str]:
+    """What the source calls each of these symbols."""
+    names = list(names)
+    mangled = [name for name in names if name.startswith("_Z")]
+    shown = asked("c++filt", given="\n".join(mangled)).splitlines() if mangled else []
+    return dict(zip(names, names)) | dict(zip(mangled, shown))
 
 
-def pattern(text):
+def pattern(text: str) -> str:
     """An expression for this text, in which `*` is anything."""
     return ".*".join(map(re.escape, text.split("*")))
 
 
 class Root:
     """The folder from which files are named."""
+
     folder = os.curdir
 
 
 @functools.lru_cache
-def shown(file):
+def shown(file: str) -> str:
     """A file's name from the root, where it is below that or below the folder around that; those of the system keep
     theirs."""
     whole, root = os.path.normpath(file), os.path.abspath(Root.folder)
@@ -71,16 +79,16 @@ def shown(file):
     return os.path.relpath(whole, root) if is_near else whole
 
 
-def is_system(position):
+def is_system(position: Position) -> bool:
     return position.file.startswith(SYSTEM) or is_own(position.file)
 
 
-def leading(positions):
+def leading(positions: list[Position]) -> Position:
     """The first that doesn't stand in a header of the system, or else the first."""
     return next((position for position in positions if not is_system(position)), positions[0])
 
 
-def positions_of(program, codes):
+def positions_of(program: str, codes: Iterable[int]) -> dict[int, list[Position]]:
     """For each code address the positions there, the innermost first: several where a call was put into its caller.
     An address is that after a call, so one less is the call's."""
     ordered = sorted(set(codes))
@@ -96,7 +104,7 @@ def positions_of(program, codes):
     return positions
 
 
-def position_of(function, where):
+def position_of(function: str, where: str) -> Position:
     file, _, line = where.split(" (")[0].rpartition(":")
     function = CAPTURED.sub("cilk_for", OUTLINED.sub("", function))
     position = Position(shown(file), int(line) if line.isdigit() else 0, without_spawns(function))
@@ -108,7 +116,7 @@ def position_of(function, where):
     return position
 
 
-def after_brackets(text, at, opening, closing):
+def after_brackets(text: str, at: int, opening: str, closing: str) -> int:
     """The end of the brackets that begin here, if any do."""
     deep = 0
     for end in range(at, len(text)):
@@ -118,7 +126,7 @@ def after_brackets(text, at, opening, closing):
     return at
 
 
-def without_spawns(function):
+def without_spawns(function: str) -> str:
     """The name of a function, without those that a spawn's statement becomes, in which it stands."""
     start = function.find(SPAWNED)
     end = function.find("}::operator()", start)
@@ -132,42 +140,33 @@ def without_spawns(function):
 
 
 @functools.lru_cache
-def lines_of(file):
+def lines_of(file: str) -> list[str]:
     """As a compiler counts them: a form feed, say, ends none."""
     try:
-        with open(os.path.join(Root.folder, file), errors="replace", newline="\n") as source:
+        with open(path_of(file), errors="replace", newline="\n") as source:
             return source.read().split("\n")
     except OSError:
         return []
 
 
-def without_comments(text):
+def path_of(file: str) -> str:
+    return os.path.join(Root.folder, file)
+
+
+def is_newer(file: str, program: str) -> bool:
+    """Whether a source is newer than the program, so that its lines may be others than those that ran."""
+    try:
+        return os.path.getmtime(path_of(file)) > os.path.getmtime(program)
+    except OSError:
+        return False
+
+
+def without_comments(text: str) -> str:
     """A source with spaces in place of its comments, on the same lines."""
     return COMMENT.sub(lambda found: found[0] if found[0][0] in "\"'" else re.sub(r"[^\n]", " ", found[0]), text)
 
 
-def text_of(position):
+def text_of(position: Position) -> str:
     """The text of a line, without the space around it."""
     lines = lines_of(position.file)
     return lines[position.line - 1].strip() if 0 < position.line <= len(lines) else ""
-
-
-class Variables:
-    """The globals and statics of a program."""
-
-    def __init__(self, program):
-        row = re.compile("([0-9a-f]+) ([0-9a-f]+) [BDRSGVCWbdrsgv] (.+)")
-        found = filter(None, map(row.fullmatch, asked("nm", "-C", "-S", "--defined-only", program).splitlines()))
-        self.rows = sorted((int(found[1], 16), int(found[2], 16), found[3]) for found in found)
-        self.starts = [start for start, _, _ in self.rows]
-
-    def at(self, address):
-        number = bisect.bisect_right(self.starts, address) - 1
-        if number < 0:
-            return None
-        start, size, name = self.rows[number]
-        # A static of a function has a number behind its name with gcc, and the function before it with clang.
-        name = re.sub(r"\.[0-9]+$", "", name).rpartition(".")[2] or name
-        critical = CRITICAL.fullmatch(self.rows[number][2])
-        name = (critical[1] or "without a name") if critical else name
-        return Variable(name, address - start, size) if address < start + size else None

@@ -17,14 +17,16 @@ import argparse
 import os
 import re
 import sys
+from collections.abc import Iterable, Iterator
 
 from installation import VERSION
-from report import checker_answers
-from report import pairs
-from report import source_lines
-from report import text
-from report.messages import with_lines
+from report import checker_answers, sites, source_lines, text
+from report.checker_answers import Race
 from report.failure import Failure, reason_of
+from report.function_names import function_of
+from report.messages import with_lines
+from report.pairs import Pair
+from report.source_lines import Position
 
 EXPLAINED = re.compile(r"(?:race|meet|first|second|joined) .*\n")
 # An opener, an access, or in the lines `meet` and `joined` a bare place.
@@ -35,29 +37,72 @@ CONFIRMED = re.compile(r"(?:yes|no ([0-9]+))\n")
 class Places:
     """The source lines of a trace's places."""
 
-    def __init__(self, program, trace):
+    def __init__(self, program: str, trace: str) -> None:
         name = trace if trace.endswith(".places") else trace + ".places"
         self.program, self.places = program, checker_answers.places_of(name)
         if os.path.getmtime(program) > os.path.getmtime(name):
-            print(f"spbags-lines: warning: {program} is newer than {name}", file=sys.stderr)
+            warn(f"{program} is newer than {name}")
 
-    def positions(self, places):
+    def positions(self, places: Iterable[int]) -> dict[int, Position]:
         """The leading position of each of these places."""
-        codes = checker_answers.codes_of(self.places, places)
+        codes = self.places.codes(places)
         found = source_lines.positions_of(self.program, codes.values())
-        return {place: source_lines.leading(found[code]) for place, code in codes.items()}
+        positions = {place: source_lines.leading(found[code]) for place, code in codes.items()}
+        self.warn_of_newer(positions.values())
+        return positions
 
-    def pairs(self, races):
-        self.places.need({place for _, *accesses in races for _, place in accesses})
-        return pairs.by_lines(self.program, races, self.places)
+    def pairs(self, races: list[Race]) -> list[Pair]:
+        self.places.need({access.place for race in races for access in race.accesses})
+        pairs = sites.by_lines(self.program, races, self.places)
+        self.warn_of_newer(side.lead() for pair in pairs for side in pair.sides)
+        return pairs
+
+    def warn_of_newer(self, positions: Iterable[Position]) -> None:
+        for file in sorted({position.file for position in positions}):
+            if source_lines.is_newer(file, self.program):
+                warn(f"{file} is newer than {self.program}")
 
 
-def show(lines):
+def warn(message: str) -> None:
+    print(f"spbags-lines: warning: {message}", file=sys.stderr)
+
+
+def show(lines: Iterable[str]) -> None:
     for line in lines:
         print(line)
 
 
-def explain(lines, places):
+def source_line(position: Position) -> str:
+    return f"{position.file}:{position.line}"
+
+
+def side_lines(sides: list[tuple[Position, str]]) -> Iterator[str]:
+    """Each side is a position and what happens there."""
+    width = max(len(source_line(position)) for position, _ in sides)
+    for position, what in sides:
+        yield (
+            f"{text.INDENT}{source_line(position):{width}}  {what:5}  in {function_of(position)}:  "
+            f"{source_lines.text_of(position)}"
+        ).rstrip()
+
+
+def pair_lines(pairs: list[Pair]) -> Iterator[str]:
+    """A paragraph for each pair; a race alone has its location, if the answer says it."""
+    yield f"races {sum(pair.races for pair in pairs)}, pairs of lines {len(pairs)}"
+    for pair in pairs:
+        named = f" of location {pair.location}" if pair.races == 1 and pair.location >= 0 else ""
+        yield f"\n{text.many(pair.races, 'race')}{named}"
+        yield from side_lines(
+            [(side.lead(), " or ".join(sorted(kinds))) for side, kinds in zip(pair.sides, pair.kinds)]
+        )
+
+
+def brief_lines(pairs: list[Pair]) -> Iterator[str]:
+    for pair in pairs:
+        yield " ".join([str(pair.races), *(source_line(side.lead()) for side in pair.sides)])
+
+
+def explain(lines: list[str], places: Places) -> None:
     """Each line of the explanation, and below it where its places are. The root has none, nor has its end."""
     rows = []
     for line in lines:
@@ -68,10 +113,10 @@ def explain(lines, places):
         print(line, end="")
         sides = [(positions[place], what) for what, place in words if positions[place].line > 0]
         if sides:
-            show(text.side_lines(sides))
+            show(side_lines(sides))
 
 
-def confirm(entry, places, report):
+def confirm(entry: int | None, places: Places, report: str | None) -> None:
     """The entry that is no race."""
     print("every entry is a race" if entry is None else f"entry {entry} is no race")
     if entry is None or report is None:
@@ -80,12 +125,12 @@ def confirm(entry, places, report):
         races = checker_answers.races_of(file.readlines())
     if not 1 <= entry <= len(races):
         raise Failure(f"{report} has no entry {entry}: does the answer belong to another report?")
-    _, *accesses = races[entry - 1]
-    positions = places.positions({place for _, place in accesses})
-    show(text.side_lines([(positions[place], kind) for kind, place in accesses]))
+    race = races[entry - 1]
+    positions = places.positions({access.place for access in race.accesses})
+    show(side_lines([(positions[access.place], access.kind) for access in race.accesses]))
 
 
-def answer(lines, brief, places, report):
+def answer(lines: list[str], brief: bool, places: Places, report: str | None) -> int:
     """Shows what this answer says, and gives its status."""
     confirmed = CONFIRMED.fullmatch("".join(lines))
     if confirmed:
@@ -98,27 +143,30 @@ def answer(lines, brief, places, report):
         explain(lines, places)
         return 1
     races = checker_answers.races_of(lines)
-    show((text.brief_lines if brief else text.pair_lines)(places.pairs(races)))
+    show((brief_lines if brief else pair_lines)(places.pairs(races)))
     for note in with_lines(places.program, places.places.notes):
         print("note:", note)
     return 1 if races else 0
 
 
-def options():
+def options() -> argparse.ArgumentParser:
     parser = argparse.ArgumentParser(
-        prog="spbags-lines", description=__doc__, formatter_class=argparse.RawDescriptionHelpFormatter)
+        prog="spbags-lines", description=__doc__, formatter_class=argparse.RawDescriptionHelpFormatter
+    )
     parser.add_argument("--version", action="version", version=f"spbags-lines {VERSION}")
     parser.add_argument("--brief", action="store_true", help="one line for each pair of source lines")
     parser.add_argument("program", metavar="PROGRAM", help="the program that wrote the trace")
-    parser.add_argument("trace", metavar="TRACE",
-                        help="the trace, whose source lines come from TRACE.places; or that file itself")
-    parser.add_argument("answer", metavar="ANSWER", nargs="?", default="-",
-                        help="the answer; - is standard input (default -)")
+    parser.add_argument(
+        "trace", metavar="TRACE", help="the trace, whose source lines come from TRACE.places; or that file itself"
+    )
+    parser.add_argument(
+        "answer", metavar="ANSWER", nargs="?", default="-", help="the answer; - is standard input (default -)"
+    )
     parser.add_argument("report", metavar="REPORT", nargs="?", help="the report that `confirm` was asked about")
     return parser
 
 
-def status_of(chosen):
+def status_of(chosen: argparse.Namespace) -> int:
     with open(chosen.answer) if chosen.answer != "-" else sys.stdin as file:
         lines = file.readlines()
     status = answer(lines, chosen.brief, Places(chosen.program, chosen.trace), chosen.report)
@@ -126,7 +174,7 @@ def status_of(chosen):
     return status
 
 
-def main():
+def main() -> int:
     try:
         return status_of(options().parse_args())
     except (Failure, OSError) as error:

@@ -3,37 +3,47 @@
     spbags-cc -o fib fib.c
     spbags-run -- ./fib 20
 
-The exit status is 0 if no race was found, 1 if one was, 2 if there is no answer, and 3 if no race was found but
-something wasn't seen or modelled: a line says what. The page tracer/RUN.md explains the report."""
+The exit status:
+
+    0  no race, and everything was seen and modelled
+    1  the report has races
+    2  no answer
+    3  no race, but something wasn't seen or modelled: a warning says what
+
+The page tracer/RUN.md explains the report."""
+from __future__ import annotations
+
 import argparse
 import os
 import re
 import sys
+from collections.abc import Callable
+from typing import TYPE_CHECKING, BinaryIO, TextIO
 
 from installation import VERSION
-from report import progress
-from report import result
-from report import runs
-from report import source_lines
-from report import text
+from report import result, runs, source_lines, text
 from report.failure import Failure, reason_of
+from report.program_input import disk_file
+from report.progress import Progress
 
 # What is of use only for some answers is imported where they are made: a program without races waits for no more.
+if TYPE_CHECKING:
+    from report.later_runs import LaterRuns
 
 
-def natural(word):
+def natural(word: str) -> int:
     if not word.isdecimal():
         raise argparse.ArgumentTypeError("expected a number, 0 or more")
     return int(word)
 
 
-def status(word):
+def status(word: str) -> int:
     if not word.isdecimal() or int(word) > 255:
         raise argparse.ArgumentTypeError("expected a status from 0 to 255")
     return int(word)
 
 
-def seconds(word):
+def seconds(word: str) -> float:
     try:
         number = float(word)
     except ValueError:
@@ -43,51 +53,56 @@ def seconds(word):
     return number
 
 
-def names(word):
+def names(word: str) -> list[str]:
     return [name for name in word.split(",") if name]
 
 
-def options():
+def options() -> argparse.ArgumentParser:
     parser = argparse.ArgumentParser(
-        prog="spbags-run", description=__doc__, formatter_class=argparse.RawDescriptionHelpFormatter,
-        usage="spbags-run [options] -- PROGRAM [WORD ..]")
-    parser.add_argument("--shards", metavar="N", default="1",
-                        help="threads of spbags that share the locations, 1 to 64 (default 1, since the program runs too)")
-    parser.add_argument("--most", metavar="N", type=natural, default=20,
-                        help="show at most N pairs of lines (default 20)")
-    parser.add_argument("--repeats", action="store_true", help="write repeats into the trace too")
-    parser.add_argument("--keep", metavar="TRACE", help="keep the trace in this file, and its places in TRACE.places")
+        prog="spbags-run",
+        description=__doc__,
+        formatter_class=argparse.RawDescriptionHelpFormatter,
+        usage="spbags-run [options] -- PROGRAM [WORD ..]",
+    )
+
+    def flag(name: str, told: str, to: argparse._ActionsContainer = parser) -> None:
+        to.add_argument(name, action="store_true", help=told)
+
+    def value(name: str, metavar: str, told: str, default: object = None, of: Callable[[str], object] = str) -> None:
+        parser.add_argument(name, metavar=metavar, default=default, type=of, help=told)
+
+    value(
+        "--shards",
+        "N",
+        "threads of spbags that share the locations, 1 to 64 (default 1, since the program runs too)",
+        "1",
+    )
+    value("--most", "N", "show at most N pairs of lines (default 20)", 20, natural)
+    flag("--repeats", "write repeats into the trace too")
+    value("--keep", "TRACE", "keep the trace in this file, and its places in TRACE.places")
     form = parser.add_mutually_exclusive_group()
-    form.add_argument("--json", action="store_true",
-                      help="print one JSON object; what the program prints then goes to standard error")
-    form.add_argument("--sarif", action="store_true",
-                      help="print SARIF 2.1.0, for editors and code review; the program's output goes as with --json")
-    parser.add_argument("--html", metavar="FILE", help="write the report into this file too, as a page for browsers")
-    parser.add_argument("--color", choices=("auto", "always", "never"), default="auto",
-                        help="colours in the text (default auto: on a terminal, unless NO_COLOR is set)")
-    parser.add_argument("--output", metavar="FILE", help="write the report into this file")
-    parser.add_argument("--source-root", metavar="DIR", default=os.curdir,
-                        help="name the files from this folder (default: the current one)")
-    parser.add_argument("--suppress", metavar="FILE",
-                        help="leave out races by the lines race:FUNCTION, race:FILE or variable:NAME of this file")
-    parser.add_argument("--gen-suppressions", action="store_true",
-                        help="print lines for --suppress that leave out each pair, in place of the report")
-    parser.add_argument("--data-races", action="store_true",
-                        help="leave out races whose accesses are both atomic or both hold one lock")
-    parser.add_argument("--streams", action="store_true", default=os.environ.get("SPBAGS_STREAMS") == "1",
-                        help="report children that use one stream or descriptor in an order that isn't determined")
-    parser.add_argument("--exitcode", metavar="N", type=status, default=1, help="the status if there is a race (default 1)")
-    parser.add_argument("--no-answer-status", metavar="N", type=status, default=2,
-                        help="the status if there is no answer (default 2; `git bisect run` needs 125)")
-    parser.add_argument("--one-run", action="store_true",
-                        help="run the program once, and look from its start: lines without stacks, for a program that "
-                             "can't be repeated")
-    parser.add_argument("--timeout", metavar="S", type=seconds,
-                        help="end the program after S seconds, and report what came before")
-    parser.add_argument("--incomplete-ok", action="store_true",
-                        help="status 0 if no race was found, even if something wasn't seen or modelled")
-    parser.add_argument("--unseen-ok", metavar="LIST", type=names, default=[],
-                        help="accept calls of these unknown functions: names separated by commas; * matches anything")
+    flag("--json", "print one JSON object; what the program prints then goes to standard error", form)
+    flag("--sarif", "print SARIF 2.1.0, for editors and code review; the program's output goes as with --json", form)
+    value("--html", "FILE", "write the report into this file too, as a page for browsers")
+    colours = "colours in the text: always, never, or auto, on a terminal unless NO_COLOR is set (default auto)"
+    choices = ("auto", "always", "never")
+    parser.add_argument("--color", metavar="WHEN", choices=choices, default="auto", help=colours)
+    value("--output", "FILE", "write the report into this file")
+    value("--source-root", "DIR", "name the files from this folder (default: the current one)", os.curdir)
+    value("--suppress", "FILE", "leave out the races that this file names")
+    flag("--gen-suppressions", "print lines for --suppress that leave out each pair, in place of the report")
+    flag("--data-races", "leave out pairs that aren't data races")
+    flag("--streams", "report children that use one stream or descriptor in an order that isn't determined")
+    parser.set_defaults(streams=os.environ.get("SPBAGS_STREAMS") == "1")
+    value("--exitcode", "N", "the status if there is a race (default 1)", 1, status)
+    value(
+        "--no-answer-status", "N", "the status if there is no answer (default 2; `git bisect run` needs 125)", 2, status
+    )
+    flag("--one-run", "run the program once, and look from its start: lines without stacks")
+    value("--timeout", "S", "end the program after S seconds, and report what came before", None, seconds)
+    flag("--incomplete-ok", "status 0 in place of 3, which accepts what wasn't seen or modelled")
+    unseen = "accept calls of these unknown functions: names separated by commas; * matches anything"
+    value("--unseen-ok", "LIST", unseen, [], names)
     parser.add_argument("--version", action="version", version=f"spbags-run {VERSION}")
     parser.add_argument("command", nargs="+", metavar="PROGRAM")
     return parser
@@ -96,18 +111,28 @@ def options():
 class Session:
     """The runs of one command."""
 
-    def __init__(self, chosen):
-        self.chosen, self.run, self.looked, self.notes, self.incomplete, self.unseen = chosen, None, None, [], [], []
-        self.progress = progress.Progress()
-        settings = {"SPBAGS_REPEATS": "1"} if chosen.repeats else {}
-        # A trace that is kept has streams only if they are asked for, since `spbags` doesn't know them from the rest.
-        settings |= {"SPBAGS_STREAMS": "1" if chosen.streams or not chosen.keep else "0"}
+    def __init__(self, chosen: argparse.Namespace) -> None:
+        self.chosen, self.progress = chosen, Progress()
         self.unit = os.environ.get("SPBAGS_UNIT") or "4"
-        self.runner = runs.Runner(chosen.command, ["--shards", chosen.shards], {**settings, "SPBAGS_UNIT": self.unit},
-                                  sys.stderr if (chosen.json or chosen.sarif) and not chosen.output else None, chosen.timeout,
-                                  self.tell_stuck, self.progress)
+        # A trace that is kept has streams only if they are asked for, since `spbags` doesn't know them from the rest.
+        settings = {
+            "SPBAGS_UNIT": self.unit,
+            "SPBAGS_STREAMS": "1" if chosen.streams or not chosen.keep else "0",
+            **({"SPBAGS_REPEATS": "1"} if chosen.repeats else {}),
+        }
+        output = sys.stderr if (chosen.json or chosen.sarif) and not chosen.output else None
+        self.runner = runs.Runner(
+            chosen.command,
+            ["--shards", chosen.shards],
+            settings,
+            output,
+            chosen.timeout,
+            self.tell_stuck,
+            self.progress,
+        )
+        self.later: LaterRuns | None = None
 
-    def tell_stuck(self, what, codes):
+    def tell_stuck(self, what: str, codes: list[int]) -> None:
         """The program may wait for ever, so this line doesn't wait for the report."""
         try:
             rows = text.stack_rows(self.runner.words[0], codes)
@@ -116,145 +141,172 @@ class Session:
         self.progress.erase()
         print("\n".join([*text.told(what, width()), *rows]), file=sys.stderr, flush=True)
 
-    def traced(self):
+    def traced(self) -> tuple[runs.Run, BinaryIO | None]:
         """The first run, which alone prints, and the file of its places: it keeps them beside a trace that is kept, and
         where there is no other run."""
         keep = self.chosen.keep and os.path.abspath(self.chosen.keep)
         if keep:
             run = self.runner.found(keep, False, {})
             return run, open(keep + ".places", "rb")
-        places = runs.disk_file() if self.chosen.one_run else None
+        places = disk_file() if self.chosen.one_run else None
         return self.runner.found(None, False, {"SPBAGS_PLACES": places.fileno()} if places else {}), places
 
-    def find(self):
-        """Finds the races, and the pairs of source positions. All that the first run found is reported, whatever comes of
+    def find(self) -> result.Report:
+        """The races, and the pairs of source positions. All that the first run found is reported, whatever comes of
         later ones, unless one with the same course shows that it is none."""
         with runs.memory_file() as waited:
             files = {"SPBAGS_WAITED": waited.fileno()}
             self.runner.files = files
-            self.run, places = self.traced()
+            run, places = self.traced()
             self.runner.files = {}
-            if self.run.has_races():
-                self.look(places)
-            self.tell_ending()
+            if run.has_races():
+                later = self.later_runs()
+                later.find_pairs(later.found(run, places))
+            notes = self.notes_of(run)
             self.runner.files = files
-            if self.run.waits and not self.looks().look_behind(self.run):
-                self.incomplete += self.run.waits
+            waits = [] if not run.waits or self.later_runs().find_behind(run) else run.waits
+        return self.report(run, notes, run.incomplete + waits)
 
-    def looks(self):
+    def later_runs(self) -> LaterRuns:
         """What later runs say."""
-        if not self.looked:
-            from report import later_runs
-            self.looked = later_runs.Looks(self.runner, self.chosen, int(self.unit))
-        return self.looked
+        if not self.later:
+            from report.later_runs import LaterRuns
 
-    def look(self, places):
-        looks = self.looks()
-        looks.look(looks.found(self.run, places))
+            self.later = LaterRuns(self.runner, self.chosen, int(self.unit))
+        return self.later
 
-    def is_silenced(self, function):
+    def is_silenced(self, function: str) -> bool:
         """Whether --unseen-ok names it; the words of a C++ function needn't be there."""
-        return any(re.fullmatch(source_lines.pattern(name), shape) for name in self.chosen.unseen_ok
-                   for shape in (function, function.partition("(")[0]))
+        return any(
+            re.fullmatch(source_lines.pattern(name), shape)
+            for name in self.chosen.unseen_ok
+            for shape in (function, function.partition("(")[0])
+        )
 
-    def tell_ending(self):
-        run, has_races = self.run, self.looked is not None and self.looked.races > 0
+    def notes_of(self, run: runs.Run) -> list[str]:
+        """What is to be said of the first run's end; without a race only a whole run has an answer."""
+        has_races = self.later is not None and self.later.races > 0
         notes = list(run.seeming) if has_races else []
-        self.incomplete = run.incomplete
-        self.unseen = [unseen for unseen in run.unseen if not self.is_silenced(unseen.function)]
+        if not run.is_whole() and not has_races:
+            raise Failure(f"{run.ending()}: there was no race up to that point")
         if not run.is_whole():
-            if not has_races:
-                raise Failure(f"{run.ending()}: there was no race up to that point")
             notes.append(f"{run.ending()}: this is the run up to that point")
         elif run.status != 0:
             notes.append(f"the program ended with status {run.status}")
-        self.notes = notes
+        return notes
 
-    def ended(self):
-        status = self.run.status
-        return {"status": status if status >= 0 else None, "signal": -status if status < 0 else None,
-                "complete": self.run.is_whole()}
-
-    def report(self):
+    def report(self, run: runs.Run, notes: list[str], incomplete: list[str]) -> result.Report:
         """What was found, without what is left out."""
-        chosen, looked = self.chosen, self.looked
-        found, races, without_stacks = (looked.pairs, looked.races, looked.without_stacks) if looked else ([], 0, 0)
-        ignored = self.suppressions() if found or chosen.suppress else None
+        chosen, later = self.chosen, self.later
+        found, races, without_stacks = (later.pairs, later.races, later.without_stacks) if later else ([], 0, 0)
+        ignored = None
+        if found or chosen.suppress:
+            from report.suppressions import Suppressions
+
+            ignored = Suppressions(chosen.suppress)
         suppressed = [pair for pair in found if ignored and ignored.match(pair)]
         rest = [pair for pair in found if pair not in suppressed]
         guarded = [pair for pair in rest if chosen.data_races and pair.is_guarded()]
         rest = [pair for pair in rest if pair not in guarded]
         own = sum(pair.guard == result.THREAD_LOCAL for pair in guarded)
         if own > 0:
-            self.notes.append(f"{text.many(own, 'pair')} of thread-local variables left out: a data race if one child "
-                              "reaches another thread's by a pointer")
-        spawns, accesses = map(int, self.run.words("ran")) if self.run.words("ran") else (None, None)
-        return result.Report(chosen.command, int(self.unit), self.ended(), spawns, accesses, races, rest[:chosen.most],
-                             result.count(rest[chosen.most:]), result.count(suppressed), result.count(guarded),
-                             without_stacks, self.notes + (looked.notes + looked.hints() if looked else []),
-                             self.incomplete, self.unseen, ignored.told() if ignored else [])
+            notes.append(
+                f"{text.many(own, 'pair')} of thread-local variables left out: a data race if one child "
+                "reaches another thread's by a pointer"
+            )
+        ran = run.words("ran")
+        spawns, accesses = (int(ran[0]), int(ran[1])) if ran else (None, None)
+        ended = result.Ended(
+            run.status if run.status >= 0 else None, -run.status if run.status < 0 else None, run.is_whole()
+        )
+        return result.Report(
+            chosen.command,
+            int(self.unit),
+            ended,
+            spawns,
+            accesses,
+            races,
+            rest[: chosen.most],
+            result.count(rest[chosen.most :]),
+            result.count(suppressed),
+            result.count(guarded),
+            without_stacks,
+            notes + (later.notes + later.hints() if later else []),
+            incomplete,
+            [unseen for unseen in run.unseen if not self.is_silenced(unseen.function)],
+            ignored.told() if ignored else [],
+        )
 
-    def suppressions(self):
-        from report import pairs
-        return pairs.Suppressions(self.chosen.suppress)
+
+def has_colours(chosen: argparse.Namespace, output: TextIO) -> bool:
+    is_asked = chosen.color == "auto" and output.isatty() and not os.environ.get("NO_COLOR")
+    return is_asked or chosen.color == "always"
 
 
-def has_colours(chosen, output):
-    return chosen.color == "always" or (chosen.color == "auto" and output.isatty() and not os.environ.get("NO_COLOR"))
-
-
-def text_of(found, chosen, output):
+def text_of(found: result.Report, chosen: argparse.Namespace, output: TextIO) -> str:
     if chosen.json or chosen.sarif:
         import json
+
         from report import sarif
+
         return json.dumps(sarif.as_object(found, VERSION) if chosen.sarif else result.as_object(found), indent=1)
     if chosen.gen_suppressions:
         return "\n".join(text.suppressions(found.pairs))
     return "\n".join(text.Text(found, has_colours(chosen, output), width()).lines())
 
 
-def width():
+def width() -> int:
     """That of what shows the text."""
+    if not os.environ.get("COLUMNS") and not os.isatty(1):
+        return 120
     import shutil
+
     return shutil.get_terminal_size((120, 24)).columns
 
 
-def show(found, chosen):
-    with open(chosen.output or sys.stdout.fileno(), "w", encoding="utf-8", errors="surrogateescape",
-              closefd=bool(chosen.output)) as output:
+def show(found: result.Report, chosen: argparse.Namespace) -> None:
+    with open(
+        chosen.output or sys.stdout.fileno(),
+        "w",
+        encoding="utf-8",
+        errors="surrogateescape",
+        closefd=bool(chosen.output),
+    ) as output:
         print(text_of(found, chosen, output), file=output)
 
 
-def status_of(found, chosen):
+def status_of(found: result.Report, chosen: argparse.Namespace) -> int:
     if found.pairs or found.not_shown.pairs:
-        return chosen.exitcode
+        return int(chosen.exitcode)
     return 3 if (found.incomplete or found.unseen) and not chosen.incomplete_ok else 0
 
 
-def page_of(found, chosen):
-    """The report as HTML, or why there can be none."""
+def page_of(found: result.Report | None, chosen: argparse.Namespace) -> str:
+    """The report as HTML; without a report, only whether there can be any."""
     try:
         # Nothing else needs the folders of the system's packages.
         import site
+
         site.main()
         from report import html_page
     except ImportError as error:
-        raise Failure(f"--html needs the module {error.name} of Python: apt-get install python3-jinja2 "
-                      "python3-pygments") from error
-    return html_page.page_of(found, status_of(found, chosen)) if found else None
+        raise Failure(
+            f"--html needs the module {error.name} of Python: apt-get install python3-jinja2 " "python3-pygments"
+        ) from error
+    return html_page.page_of(found, status_of(found, chosen)) if found else ""
 
 
-def answer(chosen):
+def answer(chosen: argparse.Namespace) -> int:
     """Shows the report, and gives the status."""
     # What can't be written, or made, is told before the program runs.
-    for name in filter(None, (chosen.output, chosen.html)):
-        open(name, "a").close()
+    for name in (chosen.output, chosen.html):
+        if name:
+            open(name, "a").close()
     if chosen.html:
         page_of(None, chosen)
     session = Session(chosen)
     try:
-        session.find()
-        found = session.report()
+        found = session.find()
     finally:
         session.progress.end()
     show(found, chosen)
@@ -264,7 +316,7 @@ def answer(chosen):
     return status_of(found, chosen)
 
 
-def main():
+def main() -> int:
     chosen = options().parse_args()
     source_lines.Root.folder = chosen.source_root
     try:

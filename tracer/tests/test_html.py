@@ -14,9 +14,10 @@ import browser
 import cases
 from cases import SPBAGS_CC, SPBAGS_RUN, TESTS, TRACER, TracerTest
 from report import html_page
-from report import pairs
+from report.pairs import Pair, Side, Variable
 from report import result
 from report.source_lines import Position
+from report.stack_rows import Frame
 
 # The name of a file and the text of a program that would do something in a page.
 EVIL = "<script>alert(1)<!--.c"
@@ -45,13 +46,12 @@ def report_of(count):
     file, found = os.path.join(TESTS, "run.c"), []
     for number in range(count):
         first, second, name = 20 + number % 100, 30 + number // 100, f"table{number // 50}"
-        ways = [[pairs.Frame("write", Position(file, first, "set"), 3), pairs.Frame("spawn", Position(file, 7, "meet"), 2)],
-                [pairs.Frame("write", Position(file, second, "other"), 3), pairs.Frame("call", Position(file, 8, "meet"), 2)]]
-        variable = {"kind": "global", "name": name, "expression": name, "offset": 0, "size": 4, "rest": None,
-                    "address": number // 50 * 4, "thread_local": False}
-        sides = [pairs.Side("write", False, [*way, pairs.Frame("call", Position(file, 9, "main"), 1)]) for way in ways]
-        found.append(pairs.Pair(1, number, sides, variable, None, None))
-    ended = {"status": 0, "signal": None, "complete": True}
+        ways = [[Frame("write", Position(file, first, "set"), 3), Frame("spawn", Position(file, 7, "meet"), 2)],
+                [Frame("write", Position(file, second, "other"), 3), Frame("call", Position(file, 8, "meet"), 2)]]
+        variable = Variable("global", name=name, size=4, address=number // 50 * 4, thread_local=False, expression=name)
+        sides = [Side("write", False, [*way, Frame("call", Position(file, 9, "main"), 1)]) for way in ways]
+        found.append(Pair(1, number, sides, variable))
+    ended = result.Ended(0, None, True)
     return result.Report(["./run"], 4, ended, 1, 2, count, found, NO_PAIRS, NO_PAIRS, NO_PAIRS, 0, [], [], [], [])
 
 
@@ -75,6 +75,13 @@ class PageTest(EvilTest):
             self.assertIn(f"{html.escape(EVIL)}:{line}", page)
         self.assertIn(html.escape("'<b>'", quote=True).replace("&#x27;", "&#39;"), page)
         self.assertIn("1: the report has races", page)
+        self.assertNotIn("is newer than", page)
+
+    def test_newer_source(self):
+        later = os.path.getmtime("program") + 1
+        os.utime(EVIL, (later, later))
+        self.run_command(SPBAGS_RUN, "--html", "page.html", "--", "./program")
+        self.assertIn(f"{html.escape(EVIL)} is newer than the program", self.read("page.html"))
 
     def test_without_modules(self):
         """A line names the packages before the program runs."""

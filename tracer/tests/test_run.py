@@ -151,6 +151,12 @@ class ReportTest(RunTest):
         self.assertEqual(("set", "static void set(int *at) { *at = 1; } /* [set] */"),
                          tuple(pair["first"]["user_frame"][name] for name in ("function", "text")))
 
+    def test_without_nm(self):
+        """Symbols are read without `nm`, which takes 110 MB for the plugins of compilers."""
+        self.write_script("nm", "#!/bin/sh\nexit 1\n")
+        [pair] = self.found("global", PATH=f"{os.getcwd()}:{os.environ['PATH']}")[1]["pairs"]
+        self.assertEqual(("table", "table[2]"), of_variable(pair, "name", "expression"))
+
     def test_static(self):
         [pair] = self.found("static")[1]["pairs"]
         child = [("write", "[count]"), ("spawn", "[spawn static]"), MAIN]
@@ -242,7 +248,7 @@ class ReportTest(RunTest):
         said = self.spbags("explain", "run.trace", str(location)).splitlines()
         places = [int(said[number].split()[at]) for number, at in ((2, 2), (3, 2), (4, 1))]
         self.assertEqual("first spawn", said[2].rpartition(" ")[0][:11])
-        codes = checker_answers.codes_of(checker_answers.places_of("run.trace.places"), places)
+        codes = checker_answers.places_of("run.trace.places").codes(places)
         found = source_lines.positions_of(program, codes.values())
         positions = [source_lines.leading(found[codes[place]]) for place in places]
         return [position.line if position.function == function else None for position in positions]
@@ -271,12 +277,33 @@ class ReportTest(RunTest):
             self.assertEqual("races 0, pairs of lines 0, 3 spawns, 4 accesses",
                              self.run_command(SPBAGS_RUN, "--", "./extent", "three").out.splitlines()[-1])
 
+    def test_newer_source(self):
+        """A note says that the lines may not be those that ran, whatever shows them; the status is that of the races."""
+        self.write("own.c", SarifTest.TEXT)
+        self.succeeds(SPBAGS_CC, *DETECTOR, "-w", "-o", "own", "own.c")
+        self.run_command(SPBAGS_RUN, "--keep", "run.trace", "--", "./own")
+        self.write("answer", self.spbags("check", "run.trace"))
+        for later, is_newer in ((-1, False), (1, True)):
+            time = os.path.getmtime("own") + later
+            os.utime("own.c", (time, time))
+            with self.subTest(is_newer=is_newer):
+                wanted = [("note", "own.c is newer than the program")] if is_newer else []
+                done = self.run_command(SPBAGS_RUN, "--", "./own")
+                self.assertEqual((1, is_newer), (done.status, "own.c is newer than the program: the text" in done.out))
+                self.assertEqual([text for _, text in wanted], [note.partition(":")[0] for note in
+                                                                self.report_of("./own")[1]["notes"]])
+                [log] = json.loads(self.run_command(SPBAGS_RUN, "--sarif", "--", "./own").out)["runs"]
+                self.assertEqual(wanted, [(note["level"], note["message"]["text"].partition(":")[0]) for note in
+                                          log["invocations"][0]["toolExecutionNotifications"]])
+                said = self.run_command(SPBAGS_LINES, "./own", "run.trace", "answer").errors
+                self.assertEqual("spbags-lines: warning: own.c is newer than ./own\n" if is_newer else "", said)
+
     def test_no_race(self):
         status, report = self.found()
         self.assertEqual((3, 0, []), (status, report["races"], report["pairs"]))
         modules = self.run_command(sys.executable, "-X", "importtime", SPBAGS_RUN, "--", "./run").errors
-        for name, is_read in (("runs", True), ("pairs", False), ("variables", False)):
-            self.assertEqual(is_read, re.search(rf"(?m)\| +{name}$", modules) is not None, name)
+        for name, is_read in (("report.runs", True), ("report.pairs", False), ("report.variables", False), ("tokens", False)):
+            self.assertEqual(is_read, re.search(rf"(?m)\| +{re.escape(name)}$", modules) is not None, name)
 
 
 def text_object(required=("text",)):

@@ -6,16 +6,9 @@ import json
 import os
 import re
 import sys
-import unittest.mock
 
 sys.dont_write_bytecode = True
 import cases
-from report import expressions
-from report import function_names
-from report import pairs
-from report import stack_rows
-from report import source_lines
-from report import text
 from cases import SPBAGS_RUN, TESTS, TracerTest, last_line
 
 MISSING = ["private", "reduction", "atomic", "critical"]
@@ -191,17 +184,6 @@ class AdviceTest(WordsTest):
         self.assertIn(f"iterations 0 and 1 of the cilk_for at {self.SOURCE}:{self.line_of('sum')} may run at once. What",
                       " ".join(self.text_of("sum").split()))
 
-    def test_updates(self):
-        """A line that makes of a variable what it was and more, whatever else stands there."""
-        for line, wanted in (("sum += x;", True), ("sum = x;", False), ("++n, sum -= x;", True), ("n++, out = x;", False),
-                             ("best = std::max(best, x);", True), ("best = x > best ? x : best;", True),
-                             ("if (x > best) best = x;", True), ("*out++ = *in++;", False), ("a[n++] = x;", False),
-                             ("int x = cilk_spawn fib(n - 1);", False), ("auto up = [n] { n[3]++; };", True),
-                             ("int slot = next++;", False), ("return sum += x;", False), ("f(n++);", False),
-                             ("for (;;) sum += x;", True), ("fill(a->text, n);", False), ("return x + y; // x++", False)):
-            with self.subTest(line):
-                self.assertEqual(wanted, expressions.updates(line))
-
 
 class TextTest(WordsTest):
     def test_pairs_by_variable(self):
@@ -213,43 +195,6 @@ class TextTest(WordsTest):
         self.assertEqual(["10 locations: write races with write", "5 locations: write races with write",
                           "races 40, pairs of lines 3"], [last_line(block.splitlines()[0]) for block in blocks[1:]])
 
-    def test_innermost(self):
-        """Of a stack in the library's headers the function that does the access has a row, and so has the outermost."""
-        at = [source_lines.Position(*words) for words in (("/usr/include/c++/store.h", 3, "store"), ("/usr/include/c++/pass.h", 5, "pass"),
-                                                    ("/usr/include/c++/sort.h", 7, "sort"), ("own.cpp", 9, "main"))]
-        shown = stack_rows.rows([pairs.Frame(role, position, 1) for role, position in zip(("header", *["call"] * 3), at)])
-        self.assertEqual([("store.h:3", "store", ""), ("sort.h:7", "sort", "and 1 more"), ("own.cpp:9", "main", "")],
-                         [(row.place, row.function, row.behind) for row in shown])
-        codes = dict(enumerate(at))
-        with unittest.mock.patch("source.positions_of", lambda _, __: {code + 1: [one] for code, one in codes.items()}):
-            self.assertEqual(["/usr/include/c++/store.h:3", "own.cpp:9"],
-                             [row.split()[0] for row in text.stack_rows("program", codes)])
-
-    def test_cycles(self):
-        """Rows that come again and again in turn are shown once, with their number."""
-        lines = [*[1, 2, 3, 2, 3, 2, 3], *[4, 4, 5, 4, 4, 5], *[6, 6], 7]
-        shown = stack_rows.rows([pairs.Frame("call", source_lines.Position("own.c", line, "f"), 1) for line in lines])
-        self.assertEqual([("own.c:1", ""), ("own.c:2", ""), ("own.c:3", "these 2 rows 3 times"), ("own.c:4", "2 times"),
-                          ("own.c:5", "these 2 rows 2 times"), ("own.c:6", "2 times"), ("own.c:7", "")],
-                         [(row.place, row.behind) for row in shown])
-
-    def test_functions(self):
-        """A lambda is named by its line, and long arguments of templates are folded."""
-        self.write("own.cpp", "// don't [\nint main() {\n    int a[2];\n    auto f = [&](int i) {\n        a[i] = 1;\n"
-                              "        auto g = [=]() mutable -> int {\n            return a[i];\n        };\n"
-                              "        return g();\n    };\n    return f(1);\n}\n")
-        gcc, clang, deep = "main::{lambda(std::pair<int, long> const&)#1}::operator()(int) const", "main::$_0::operator()(int) const", \
-            "auto main::{lambda(auto:1&)#1}::operator()<int>(int&) const"
-        for line, function, wanted in (
-                (5, gcc, "lambda at own.cpp:4"), (5, clang, "lambda at own.cpp:4"), (7, gcc, "lambda at own.cpp:6"),
-                (9, deep, "lambda at own.cpp:4"), (11, gcc, "main"),
-                (5, "Table<std::pair<int, int>, double>::add(std::vector<int> const&)", "Table<..>::add(std::vector<int> const&)"),
-                (5, "std::operator<< <std::char_traits<char> >(char)", "std::operator<< <..>(char)"),
-                (5, "bool operator<(Key<int> const&)", "bool operator<(Key<int> const&)")):
-            with self.subTest(function, line=line):
-                self.assertEqual(wanted, function_names.function_of(source_lines.Position("own.cpp", line, function)))
-        self.assertEqual("lambda in main", function_names.function_of(source_lines.Position("none.cpp", 5, gcc)))
-
     def test_source_root(self):
         """Files are named from the folder of the run, or from another one."""
         for folder in ("src", "made"):
@@ -260,22 +205,6 @@ class TextTest(WordsTest):
         for options, wanted in (((), "../src/own.c"), (("--source-root", ".."), "src/own.c")):
             [pair] = self.pairs_of(program="./own", options=options)
             self.assertEqual((wanted, 3, "n++;"), tuple(pair["first"]["user_frame"][name] for name in ("file", "line", "text")))
-
-    def test_parts(self):
-        """All members are named; of many elements one, and the number of the others."""
-        for parts, number, wanted in (([f"s.{name}" for name in "abcde"], 5, "s.a, s.b, s.c, s.d and s.e"),
-                                      (["s[0]", "s[7]"], 2, "s[0] and s[7]"),
-                                      ([f"s[{at}]" for at in range(5)], 5, "s[0] and 4 more elements of s"),
-                                      ([f"s[{at}].x" for at in range(20)], 60, "s[0].x and 59 more parts of s"),
-                                      (["s._M_a.b", "s._M_c"], 2, "s")):
-            with self.subTest(wanted):
-                self.assertEqual(wanted, text.parts_named({"name": "s", "parts": parts, "parts_count": number}))
-
-    def test_told(self):
-        """What can't wait for the report is as wide."""
-        words = "for 30 seconds the program has touched no new memory and started no task. It goes on, since it may"
-        self.assertEqual(["spbags-run: for 30 seconds the program has touched no new memory", "    and started no task. It goes on, since it may"],
-                         text.told(words, 67))
 
     def test_line_ends(self):
         """A form feed ends no line of a source, nor does what else ends lines for Python."""
