@@ -63,7 +63,7 @@ def guard_of(text):
 
 
 def unpacked(packed):
-    """The numbers of a block, by hooks/packing.h."""
+    """The numbers of a block, by hooks/records/packing.h."""
     numbers, rest = [], iter(packed)
     for new in rest:
         numbers += islice(rest, new)
@@ -73,9 +73,9 @@ def unpacked(packed):
 
 
 class Places:
-    """A run's file of places: packed blocks of numbers of 2 bytes, by hooks/places.h; where each block ends, as how many
-    records and how many packed numbers stand before; the sites, the lists of guards, the lines of the report; and how many
-    of all these there are."""
+    """A run's file of places: packed blocks of numbers of 2 bytes, by hooks/records/places.h; where each block ends, as
+    how many records and how many packed numbers stand before; the sites, the lists of guards, the lines of the report;
+    and how many of all these there are."""
     END = struct.Struct("<QQQQQQ8s")
     MARK, TWO, REPEAT = b"spbplace", 0xfffd, 0xfffe
 

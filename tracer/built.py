@@ -18,6 +18,12 @@ FOR_PROGRAMS = re.compile("_|GOMP_|omp_|rattle_")
 BESIDE = ("spbags_cilk.h", "include/spbags_inside.h", "library.table", "library.py", "built.py")
 
 
+def files_of_hooks():
+    """As the tracer's folder has them, such as hooks/base/tell.c."""
+    return sorted(os.path.relpath(os.path.join(folder, name), HERE)
+                  for folder, _, names in os.walk(os.path.join(HERE, "hooks")) for name in names)
+
+
 class Hooks:
     """Those of one link, in the form that its words ask for. A compiler of C++ has those of the compiler of C beside it."""
 
@@ -34,11 +40,9 @@ class Hooks:
     def made_of(self):
         compiler = repr((self.compiler.command, self.compiler.about)).replace("clang++", "clang").replace("g++", "gcc")
         made_of = hashlib.sha256(repr((compiler, self.flags)).encode())
-        sources = os.path.join(HERE, "hooks")
-        for name in (*(os.path.join(sources, name) for name in sorted(os.listdir(sources))),
-                     *(os.path.join(HERE, name) for name in BESIDE)):
-            with open(name, "rb") as file:
-                made_of.update(file.read())
+        for name in (*files_of_hooks(), *BESIDE):
+            with open(os.path.join(HERE, name), "rb") as file:
+                made_of.update(name.encode() + file.read())
         return made_of
 
     def compile(self):
@@ -49,13 +53,13 @@ class Hooks:
         for name, text in (("library_names.h", table.declarations()), ("library_wrappers.h", table.wrappers())):
             with open(os.path.join(self.folder, name), "w", encoding="utf-8") as file:
                 file.write(text)
-        sources = os.path.join(HERE, "hooks")
-        names = [name for name in sorted(os.listdir(sources))
-                 if name.endswith(".c") and (self.words.openmp or not name.startswith("openmp_"))]
-        objects = [os.path.join(self.folder, name + ".o") for name in names]
+        names = [name for name in files_of_hooks()
+                 if name.endswith(".c") and (self.words.openmp or not name.startswith("hooks/openmp/"))]
+        objects = [os.path.join(self.folder, name.replace("/", "-") + ".o") for name in names]
         with ThreadPoolExecutor(len(os.sched_getaffinity(0))) as pool:
-            list(pool.map(lambda name, made: run(*self.compiler.command, *self.flags, "-I" + self.folder, "-c",
-                                                 os.path.join(sources, name), "-o", made), names, objects))
+            list(pool.map(lambda name, made: run(*self.compiler.command, *self.flags, "-I" + self.folder,
+                                                 "-I" + os.path.join(HERE, "hooks"), "-c", os.path.join(HERE, name),
+                                                 "-o", made), names, objects))
         made = os.path.join(self.folder, "hooks.o")
         run("ld", "-r", *objects, "-o", made)
         # What the compiler itself calls there is no call of the program. The hooks know their code by a section. And

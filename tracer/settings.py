@@ -1,5 +1,5 @@
 #!/usr/bin/env python3
-"""The settings of hooks/settings.h as the tables of the pages: `settings.py` prints that of README.md, and `settings.py
+"""The settings of hooks/base/settings.h as the tables of the pages: `settings.py` prints that of README.md, and `settings.py
 openmp` that of OPENMP.md."""
 import os
 import re
@@ -11,7 +11,7 @@ ROW = re.compile(r'\bSETTING\((\w+), "(.*?)", "(.*?)",\s*(?:\\\s*)?"(.+?)"\)')
 
 def rows(openmp):
     """Each setting: its name, what it may be, what it is by default, and its help."""
-    with open(os.path.join(HERE, "hooks", "settings.h"), encoding="utf-8") as file:
+    with open(os.path.join(HERE, "hooks", "base", "settings.h"), encoding="utf-8") as file:
         usual, others = file.read().split("#define OPENMP_SETTINGS")
     return ROW.findall(others if openmp else usual)
 

@@ -1,12 +1,12 @@
 /* Parts of the hooks, each alone: the word names one, whose demands hold by the definitions. The compiler gets small
    limits of a strand and of their number. What stands here as a whole has variables that are looked at. */
-#include "../hooks/heap.c"
-#include "../hooks/locations.c"
+#include "program/heap.c"
+#include "program/locations.c"
 
-#include "../hooks/divided.h"
-#include "../hooks/formats.h"
-#include "../hooks/openmp.h"
-#include "../hooks/packing.h"
+#include "records/divided.h"
+#include "library/formats.h"
+#include "base/openmp.h"
+#include "records/packing.h"
 #include "../spbags_cilk.h"
 
 #define DEMAND(HOLDS) \

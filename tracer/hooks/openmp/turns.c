@@ -1,0 +1,155 @@
+#include "openmp/turns.h"
+
+#include "program/hidden.h"
+#include "program/locations.h"
+#include "records/look.h"
+#include "base/memory.h"
+#include "openmp/bodies.h"
+#include "openmp/scopes.h"
+#include "shadow/own.h"
+#include "program/watch.h"
+
+struct turns turns = {.stacks_used = 1};
+/* What signals a member lets through. */
+static sigset_t members_mask;
+
+/* What others have recorded there is forgotten. */
+static void enter_own(const struct stack *stack) {
+    for (size_t at = 0; at < OWN_PARTS; at++)
+        locations_clear(stack->own.part[at].first, stack->own.part[at].end - stack->own.part[at].first);
+    own_enter(&stack->own);
+}
+
+static void leave_stack(void) {
+    struct stack *stack = stacks_running;
+    if (doing.tracing)
+        own_leave(&stack->own);
+    stack->frames = frames_all;
+    stack->frames_end = frames_end;
+    stack->top = frames_top;
+    stack->grouped = frames_grouped;
+    stack->silent_frame = frames_silent;
+    stack->parts = frames_parts;
+    stack->lowest = stacks_lowest;
+    stack->bodies = bodies.first;
+    stack->newest_body = bodies.newest;
+    stack->initialising = frames_initialising;
+    stack->hidden_updates = hidden_updates;
+    stack->guards_held = guards_held;
+    memcpy(stack->guards, guards, guards_held * sizeof *guards);
+}
+
+static void enter_stack(struct stack *stack) {
+    stacks_running = stack;
+    stacks_running_first = stack->first;
+    stacks_running_size = stack->end - stack->first;
+    frames_all = stack->frames;
+    frames_end = stack->frames_end;
+    frames_top = stack->top;
+    frames_grouped = stack->grouped;
+    frames_silent = stack->silent_frame;
+    frames_parts = stack->parts;
+    stacks_lowest = stack->lowest;
+    bodies = (struct bodies){stack->bodies, stack->newest_body};
+    frames_initialising = stack->initialising;
+    hidden_updates = stack->hidden_updates;
+    guards_held = stack->guards_held;
+    memcpy(guards, stack->guards, guards_held * sizeof *guards);
+    if (doing.tracing)
+        enter_own(stack);
+    short_way_find();
+}
+
+static void give_turn(struct stack *next) {
+    if (doing.looking)
+        look_node_of(top_at());
+    leave_stack();
+    enter_stack(next);
+    sem_post(&next->turn);
+}
+
+void turns_switch_to(struct stack *next) {
+    struct stack *stack = stacks_running;
+    sigset_t all, before;
+    int error = errno;
+    sigfillset(&all);
+    sigprocmask(SIG_BLOCK, &all, &before);
+    give_turn(next);
+    wait_for(&stack->turn);
+    stacks_running_thread = __builtin_thread_pointer();
+    sigprocmask(SIG_SETMASK, &before, NULL);
+    errno = error;
+}
+
+/* The first turn of a member's thread. */
+static void prepare_thread(void) {
+    sigaltstack(&(stack_t){.ss_sp = stacks_for_signals, .ss_size = sizeof stacks_for_signals}, NULL);
+    stacks_running->own = own_find();
+    if (doing.tracing)
+        enter_own(stacks_running);
+    watch_begin();
+}
+
+static void *take_turns(void *with) {
+    struct stack *stack = with;
+    sigset_t all;
+    sigfillset(&all);
+    for (bool is_prepared = false;; is_prepared = true) {
+        wait_for(&stack->turn);
+        stacks_running_thread = __builtin_thread_pointer();
+        if (!is_prepared)
+            prepare_thread();
+        sigprocmask(SIG_SETMASK, &members_mask, NULL);
+        struct member *member = stack->member;
+        members_run(member, STACK_POINTER);
+        sigprocmask(SIG_BLOCK, &all, NULL);
+        give_turn(members_next_stack(member));
+    }
+    return NULL;
+}
+
+static void start_thread(struct stack *stack) {
+    sigset_t all;
+    pthread_t thread;
+    pthread_attr_t attributes;
+    sem_init(&stack->turn, 0, 0);
+    sigfillset(&all);
+    sigprocmask(SIG_BLOCK, &all, &members_mask);
+    pthread_attr_init(&attributes);
+    pthread_attr_setstack(&attributes, (void *)stack->first, stack->end - stack->first);
+    int error = __real_pthread_create(&thread, &attributes, take_turns, stack);
+    pthread_attr_destroy(&attributes);
+    sigprocmask(SIG_SETMASK, &members_mask, NULL);
+    if (error != 0)
+        fail("a thread of a team can't be started: %s", strerror(error));
+}
+
+/* The next stack below all others. */
+static void add_stack(void) {
+    struct stack *stack = &stacks[stacks_count];
+    uintptr_t end = stacks[stacks_count - 1].first - stack_gap, first = end - turns.stack_size;
+    int flags = MAP_PRIVATE | MAP_ANONYMOUS | MAP_NORESERVE | MAP_STACK | MAP_FIXED_NOREPLACE;
+    if (mmap((void *)first, turns.stack_size, PROT_READ | PROT_WRITE, flags, -1, 0) != (void *)first)
+        fail("there is no room for the stacks of a team below the program's own: SPBAGS_TEAM=1 needs none");
+    size_t most_frames = turns.stack_size / 16 * 2;
+    *stack = (struct stack){.first = first, .end = end, .lowest = end};
+    stack->frames = memory_reserve(most_frames * sizeof *frames_all);
+    stack->frames_end = stack->frames + most_frames;
+    stack->parts = doing.looking ? memory_reserve(most_frames * sizeof *frames_parts) : NULL;
+    stack->bodies = bodies_reserve();
+    stacks_count++;
+    start_thread(stack);
+}
+
+struct stack *turns_next_stack(struct member *member, uint32_t node) {
+    if (turns.stacks_used == stacks_count)
+        add_stack();
+    struct stack *stack = &stacks[turns.stacks_used++];
+    stack->top = stack->frames;
+    *stack->top = (struct frame){.kind = ROOT, .end = UINTPTR_MAX, .node = node};
+    stack->grouped = stack->silent_frame = NULL;
+    stack->newest_body = stack->bodies;
+    stack->guards_held = stack->initialising = stack->hidden_updates = 0;
+    stack->member = member;
+    return stack;
+}

@@ -1,0 +1,40 @@
+#include "shadow/blocks.h"
+
+#include "base/memory.h"
+#include "base/tell.h"
+
+intptr_t blocks_regions[REGIONS];
+/* The regions of the stack, whose other memory has bytes too. */
+static size_t stack_region, stack_regions_count;
+static intptr_t *rows_beside_stack;
+
+void blocks_begin_stack(size_t region, size_t count) {
+    stack_region = region;
+    stack_regions_count = count;
+    rows_beside_stack = memory_reserve(count * sizeof *rows_beside_stack);
+}
+
+static intptr_t make_row(size_t region) {
+    size_t size = region_bytes(), blocks = size / BLOCK_UNITS;
+    intptr_t row = (intptr_t)memory_reserve(size + blocks * sizeof(struct block));
+    row -= (intptr_t)(region << REGION_BITS >> units_shift);
+    if (row <= 0 && units_shift == USUAL_SHIFT)
+        fail("the system has no memory for the hooks at high addresses");
+    return row;
+}
+
+intptr_t blocks_other_row(size_t region) {
+    bool is_of_stack = region - stack_region < stack_regions_count;
+    intptr_t *row = is_of_stack ? &rows_beside_stack[region - stack_region] : &blocks_regions[region];
+    if (*row == 0)
+        *row = make_row(region);
+    return *row;
+}
+
+struct touched blocks_dead(size_t span, size_t number) {
+    intptr_t row = row_of(span_first(span));
+    size_t at = (span % REGION_SPANS * DEAD_BLOCKS + number / BLOCK_UNITS) * BLOCK_UNITS;
+    uint8_t *done = (uint8_t *)row + ((span_first(span) & ~region_mask) >> units_shift) + region_units() + at;
+    uint64_t location = 2 * ((name_of_dead(span) >> units_shift) + (number & ~(size_t)(BLOCK_UNITS - 1)));
+    return (struct touched){block_of(row, span_first(span), done), done, location};
+}

@@ -1,0 +1,59 @@
+/* A strand is what runs between two records of the structure. Each unit of the stack has a mark, which says what was done
+   there last: twice the number of the strand, and one more where it wrote. */
+#ifndef SPBAGS_MARKS_H
+#define SPBAGS_MARKS_H
+
+#include "shadow/stacks.h"
+#include "shadow/units.h"
+
+enum { UNTOUCHED = 0, TOUCHED = 1, FIRST_READ = 4 };
+/* So many marks are cleared at once. */
+enum { CLEARED = 16 };
+/* The greatest number of a strand. */
+#ifndef MOST_STRANDS
+#define MOST_STRANDS 0x7ffffffeu
+#endif
+
+/* What the current strand has read has this mark, and what it has written one more. Like all whose names in the
+   assembler's text stand here, this is of use beside the accesses too. */
+extern uint32_t marks_read __asm__("__spbags_has_read");
+/* How often the numbers of strands have begun again. */
+extern uint32_t marks_again;
+
+/* What is a thread's own isn't shared, so nothing in it is recorded: with this mark all that is done there counts as a
+   repeat. No other mark is above that of a write in the current strand. */
+static const uint32_t own_mark = UINT32_MAX;
+
+static inline bool is_repeat(bool writes, uint32_t mark) { return writes ? mark > marks_read : mark >= marks_read; }
+
+static inline uint32_t new_mark(bool writes) { return marks_read + writes; }
+
+/* The strand that runs has this number in the whole run. */
+static inline uint64_t strand_now(void) { return (uint64_t)marks_again << 32 | marks_read; }
+
+/* Where the mark of the unit 0 would stand, if those of the stack went on. */
+extern uintptr_t marks_of_stack __asm__("__spbags_marks");
+
+static inline uint32_t *stack_mark(uintptr_t address) {
+    return (uint32_t *)(marks_of_stack + (address >> units_shift) * sizeof(uint32_t));
+}
+
+/* The same of the unit that begins at this address, where it is the usual one. */
+static inline uint32_t *usual_mark(uintptr_t address) {
+    _Static_assert(1 << USUAL_SHIFT == sizeof(uint32_t), "marks are further apart than units");
+    return (uint32_t *)(marks_of_stack + address);
+}
+
+/* Makes the marks of the stack, which lies between these. */
+void marks_begin(uintptr_t first, uintptr_t end);
+/* All numbers are taken: they begin again, and no mark may have an old one, nor may what else has marks: divided units and
+   views of reducers. */
+__attribute__((cold)) void marks_begin_again(void);
+
+static inline void begin_strand(void) {
+    if (__builtin_expect(marks_read / 2 >= MOST_STRANDS, 0))
+        marks_begin_again();
+    marks_read += 2;
+}
+
+#endif
