@@ -3,9 +3,11 @@
 #include "program/heap.c"
 #include "program/locations.c"
 
-#include "records/divided.h"
-#include "library/formats.h"
+#include "base/callbacks.h"
 #include "base/openmp.h"
+#include "library/formats.h"
+#include "records/divided.h"
+#include "records/lines.h"
 #include "records/packing.h"
 #include "../spbags_cilk.h"
 
@@ -22,35 +24,37 @@
 void __real__exit(int status) { _exit(status); }
 int __real_munmap(void *at, size_t size) { return munmap(at, size); }
 char __start_spbags_hooks[1], __stop_spbags_hooks[1];
-void signals_end_run(int number) { _exit(number); }
-volatile sig_atomic_t changes, changes_waiting_signal, changes_stepping;
-void changes_let_signal_end(void) {}
 struct doing doing = {.detecting = true};
 static struct frame root;
 struct frame *frames_top = &root, *frames_silent;
 unsigned frames_initialising;
+uint32_t procedures_count;
 uintptr_t short_way_bits, short_way_end, short_way_first;
 void short_way_find(void) {}
 void frames_leave_left(uintptr_t address, uintptr_t code) { (void)address, (void)code; }
 
-bool divided_any, reducers_any;
+static void forget_strands(void) {}
+const struct callbacks callbacks = {.forget_strands = forget_strands, .use_dead = heap_use_dead};
+
+bool divided_any, views_any;
 void divided_clear(uintptr_t address, uintptr_t end) { (void)address, (void)end; }
-void divided_forget(void) {}
-void reducers_forget(void) {}
-enum update reducers_update_of(uintptr_t unit, unsigned shift, bool repeats) {
+enum update views_update_of(uintptr_t unit, unsigned shift, bool repeats) {
     (void)unit, (void)shift, (void)repeats;
     return NO_UPDATE;
 }
 
-uint64_t *detector_hand_over(const uint64_t *end) { return (void)end, NULL; }
-uint64_t *records_write_out(const uint64_t *end) { return (void)end, NULL; }
-void changes_refuse_handler(void) { abort(); }
-void records_end_life(struct life_end end) { begin_life(end.span); }
-void look_at_block(uintptr_t block, size_t size, uintptr_t stack_pointer, uintptr_t code) {
-    (void)block, (void)size, (void)stack_pointer, (void)code;
+struct recent_records records_recent;
+void recent_pass_on(void) {}
+void look_at_block(uintptr_t block, size_t size, uint64_t dead, uintptr_t stack_pointer, uintptr_t code) {
+    (void)block, (void)size, (void)dead, (void)stack_pointer, (void)code;
 }
-uint64_t look_blocks[(1 << LOOK_BLOCK_BITS) / 64], *places_site_keys;
+void look_at_structure(void) {}
+void look_at_access(bool writes, uint64_t location) { (void)writes, (void)location; }
+void look_forget_pending(void) {}
+uint64_t look_blocks[(1 << LOOK_BLOCK_BITS) / 64], look_place_now, look_next_place, *places_site_keys;
 uint16_t *places_site_numbers;
+struct places_newest places_newest;
+void places_put_other(uint16_t site) { (void)site; }
 uint16_t places_find_site(uint64_t word) { return (uint16_t)word; }
 void look_note_pending(bool writes, uint64_t location, uintptr_t address, uintptr_t code) {
     (void)writes, (void)location, (void)address, (void)code;
@@ -81,25 +85,31 @@ static void make_stack(void) {
     stacks_running_size = stacks_size = STACK_BYTES;
     stacks[0].end = stacks_first + STACK_BYTES;
     marks_begin(stacks_first, stacks[0].end);
-    locations_begin();
 }
 
-/* How many parts have gone out, and of the last one the blocks in their order with what was read there, and written. */
+/* What has gone out: the blocks in their order with what was read there, and written. */
 static struct {
-    size_t parts, count;
-    uint64_t locations[MOST_BLOCKS], masks[MOST_BLOCKS][2];
+    size_t count;
+    uint64_t locations[2 * MOST_BLOCKS], masks[2 * MOST_BLOCKS][2];
 } out;
+static uint64_t gone_out[STEPS_AT_HAND];
 
-void records_put_strand(void) {
+static uint64_t *hand_over(const uint64_t *end) {
+    DEMAND(end == gone_out);
+    return gone_out;
+}
+
+static void begin_reading(void) { steps_begin(gone_out, hand_over); }
+
+/* All from the last call of this or of begin_reading. */
+static void read_out(void) {
     out.count = 0;
-    for (size_t at = 0; at < strands_part.used; at++) {
-        out.locations[out.count] = strands_part.list[at].location;
-        take_units(&strands_part.list[at], out.masks[out.count]);
-        out.count += (out.masks[out.count][false] | out.masks[out.count][true]) != 0;
+    for (const uint64_t *at = gone_out; at < steps_next; at += 3, out.count++) {
+        DEMAND((*at & 7) == block_follows && out.count < 2 * MOST_BLOCKS);
+        out.locations[out.count] = *at >> 3;
+        memcpy(out.masks[out.count], at + 1, sizeof *out.masks);
     }
-    strands_part.used = 0;
-    strands_part.before++;
-    out.parts++;
+    begin_reading();
 }
 
 static uint64_t location_of_block(unsigned block) { return 2 * (memory_unit(block * BLOCK_UNITS) >> units_shift); }
@@ -111,8 +121,9 @@ static void strand_blocks(void) {
     for (int round = 0; round < 2000; round++) {
         uint64_t wanted[10][2] = {{0}}, touched[10] = {0};
         unsigned order[MOST_BLOCKS + 1], used = 0;
-        size_t parts = out.parts;
-        locations_noted_quickly = drawn(2) != 0;
+        uint64_t parts = course.parts;
+        strands_noted_quickly = drawn(2) != 0;
+        begin_reading();
         for (int access = 0; access < 40; access++) {
             unsigned block = drawn(8), first = drawn(BLOCK_UNITS), count = 1 + drawn(BLOCK_UNITS - first),
                      writes = drawn(2);
@@ -124,8 +135,9 @@ static void strand_blocks(void) {
             wanted[block][writes] |= units_from(first, count) & ~(writes ? 0 : wanted[block][true]);
             touched[block] |= units_from(first, count);
         }
-        records_put_strand();
-        DEMAND(out.parts == parts + 1 && out.count == used);
+        strands_put();
+        read_out();
+        DEMAND(course.parts == parts + 1 && out.count == used);
         for (unsigned at = 0; at < used; at++) {
             DEMAND(out.locations[at] == location_of_block(order[at]));
             DEMAND(memcmp(out.masks[at], wanted[order[at]], sizeof out.masks[at]) == 0);
@@ -133,11 +145,12 @@ static void strand_blocks(void) {
     }
     for (unsigned block = 0; block < MOST_BLOCKS; block++)
         locations_touch(true, memory_unit(block * BLOCK_UNITS), 4, 0);
-    size_t parts = out.parts;
+    uint64_t parts = course.parts;
     locations_touch(true, memory_unit(0), 4, 0);
-    DEMAND(out.parts == parts);
+    DEMAND(course.parts == parts);
     locations_touch(true, memory_unit(MOST_BLOCKS * BLOCK_UNITS), 4, 0);
-    DEMAND(out.parts == parts + 1 && out.count == MOST_BLOCKS && strands_part.used == 1);
+    read_out();
+    DEMAND(course.parts == parts + 1 && out.count == MOST_BLOCKS && strands_part.used == 1);
 }
 
 static void strand_locations(void) {
@@ -165,7 +178,7 @@ static void strand_left_out(void) {
     make_stack();
     for (int round = 0; round < 20000; round++) {
         unsigned unit = drawn(MOST), first = drawn(MOST), end = first + drawn(MOST - first) + 1;
-        locations_noted_quickly = drawn(2) != 0;
+        strands_noted_quickly = drawn(2) != 0;
         locations_touch(true, memory_unit(unit), 4, 0);
         left[unit / BLOCK_UNITS] |= units_from(unit % BLOCK_UNITS, 1);
         if (drawn(20) == 0) {
@@ -176,12 +189,12 @@ static void strand_left_out(void) {
         for (unsigned block = 0; block < 3; block++)
             DEMAND(units_with(block_at(memory_unit(block * BLOCK_UNITS)).done, WROTE_IT) == left[block]);
     }
-    size_t parts = out.parts;
+    uint64_t parts = course.parts;
     for (unsigned block = 0; block < 100; block++) {
         locations_touch(true, memory_unit(block % 10 * BLOCK_UNITS), 4, 0);
         die_alone(0, 10 * BLOCK_UNITS);
     }
-    DEMAND(out.parts == parts);
+    DEMAND(course.parts == parts);
 }
 
 /* ---- Marks, and the numbers of the stack ---- */
@@ -199,7 +212,8 @@ void records_access(bool writes, const struct touched *in, uint64_t location, ui
 }
 
 static void next_strand(void) {
-    records_put_strand();
+    begin_reading();
+    strands_put();
     begin_strand();
 }
 

@@ -12,9 +12,9 @@ LIMITS = ("-DMOST_STRANDS=20", "-DMOST_BLOCKS=4", "-DFREE_SPANS=1")
 UNDEFINED = ("-fsanitize=undefined", "-fsanitize-undefined-trap-on-error")
 HOOKS = os.path.join(TRACER, "hooks")
 BESIDE = [f"{HOOKS}/{name}.c" for name in (
-    "base/memory", "base/settings", "base/tell", "library/formats", "records/course", "records/guards",
-    "records/packing", "records/steps", "records/strands", "records/window", "shadow/blocks", "shadow/marks",
-    "shadow/own", "shadow/spans", "shadow/stacks", "shadow/units")]
+    "base/changes", "base/memory", "base/output", "base/settings", "base/tell", "library/formats", "records/course",
+    "records/guards", "records/lines", "records/packing", "records/steps", "records/strands", "shadow/blocks",
+    "shadow/granules", "shadow/marks", "shadow/own", "shadow/stacks")]
 
 
 class PartsTest(TracerTest):

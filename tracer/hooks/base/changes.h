@@ -1,3 +1,4 @@
+/* Records as a handler of a signal sees them. */
 #ifndef SPBAGS_CHANGES_H
 #define SPBAGS_CHANGES_H
 
@@ -11,7 +12,6 @@ extern volatile sig_atomic_t changes, changes_waiting_signal;
 /* So it is while a record of a plain run is put, of which there are many: a count would take longer. */
 extern volatile sig_atomic_t changes_stepping;
 static inline bool is_amid_record(void) { return changes > 0 || changes_stepping; }
-void signals_end_run(int number);
 
 /* What stands before it in the text is done before what stands behind it, as a handler sees it. */
 static inline void in_order(void) { __atomic_signal_fence(__ATOMIC_SEQ_CST); }

@@ -3,11 +3,20 @@
    these files. The program runs on one thread, in the serial order: a spawned child runs at once, as an
    ordinary call.
 
-   Each part is a .c file with a header of what others may call; what is on the way of each access is inline there.
-   Each stands on those before it: units, spans, blocks, stacks, marks and own, which say what the strand has done
-   where; strands, window and steps, with what goes out later; detector and output, which get it; records; locations;
-   frames, with the hooks of functions and spawns; divided, reducers, accesses and heap; closing and run. Where one calls
-   what stands on it its header says so.
+   Each module is a .c file with a header of what others may call; what is on the way of each access is inline there. What
+   a header declares begins with the module's name, constants with that of one. Only the words in which hooks are written
+   don't: macros, and what stands here and in library/words.h. Each folder stands on those before it:
+
+     base/          what all may use: settings, the run's state, lines for the user, output
+     shadow/        what is known of the program's memory, and of the functions that are active
+     records/       what goes out, when and where
+     program/       the hooks that the program's own code calls
+     library/       those in place of functions of the library
+     openmp/        those in place of OpenMP's runtimes
+     openmp/clang/  those that only clang calls
+     run/           how a run begins and ends, and the detector
+
+   Where one calls what stands on it, it does so by base/callbacks.h, or base/openmp.h says so.
 
    Here is what each part may use: the system's headers, and the library's real functions. */
 #ifndef SPBAGS_COMMON_H
@@ -55,7 +64,7 @@
 #error "programs can be traced only on x86-64 Linux"
 #endif
 
-/* For what is on the way of each call: a compiler leaves it out of line where a unit is small. */
+/* For what is on the way of each call: a compiler leaves it out of line where a file is small. */
 #define ALWAYS_INLINE static inline __attribute__((always_inline))
 
 /* The real function and the hook for a name that a macro holds. */
@@ -67,6 +76,8 @@ int __real_sem_wait(sem_t *semaphore);
 long __real_syscall(long number, ...);
 int __real_pthread_create(pthread_t *, const pthread_attr_t *, void *(*)(void *), void *);
 void __real__exit(int status) __attribute__((noreturn));
+
+static inline size_t least(size_t a, size_t b) { return a < b ? a : b; }
 
 static inline void wait_for(sem_t *semaphore) {
     while (__real_sem_wait(semaphore) != 0)

@@ -3,13 +3,6 @@
 #include "base/changes.h"
 #include "base/tell.h"
 
-volatile sig_atomic_t changes, changes_stepping, changes_waiting_signal;
-
-void changes_let_signal_end(void) {
-    if (!is_amid_record())
-        signals_end_run(changes_waiting_signal);
-}
-
 struct output outcome = {.file = -1, .room = LONGEST, .most = UINT64_MAX};
 
 /* A closed pipe and a file past its size limit kill by a signal, unless that is blocked: then the write fails. */

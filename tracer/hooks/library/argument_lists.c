@@ -1,5 +1,5 @@
 /* What `va_arg` reads and sets of a list of arguments, where the compiler has one operation for it. */
-#include "program/noting.h"
+#include "program/accesses.h"
 
 /* A list, as the processor's binary interface has it: how far the registers of each kind are used up, of which these
    many bytes were saved, and where the next argument in memory is. */

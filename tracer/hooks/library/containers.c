@@ -1,6 +1,6 @@
 /* What the library itself has of C++'s containers: trees, lists and tables of hashes. Those of trees stand in for the
    library's, since what they touch depends on the whole tree. */
-#include "program/noting.h"
+#include "program/accesses.h"
 
 /* Who called the library, and what for. */
 static struct caller inside_of;

@@ -4,7 +4,7 @@
 
 #include "library/formats.h"
 #include "library/words.h"
-#include "program/noting.h"
+#include "program/accesses.h"
 
 /* The inner state of functions, which stands for what they read and write inside. */
 #define state(NAME) (&library_state_of_##NAME)

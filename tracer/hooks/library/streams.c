@@ -3,7 +3,7 @@
 #include "library/streams.h"
 
 #include "records/guards.h"
-#include "program/noting.h"
+#include "program/accesses.h"
 
 bool streams_judged, streams_shared = true;
 

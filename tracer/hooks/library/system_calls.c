@@ -1,6 +1,6 @@
 /* System calls by their numbers. Nothing is known of most, so a report says that they were called. */
-#include "shadow/frames.h"
-#include "program/noting.h"
+#include "program/procedures.h"
+#include "program/accesses.h"
 #include "library/unknown.h"
 #include "program/watch.h"
 

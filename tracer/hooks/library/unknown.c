@@ -2,8 +2,8 @@
    function. So a report can say which of them were called. */
 #include "library/unknown.h"
 
-#include "shadow/frames.h"
-#include "program/noting.h"
+#include "program/procedures.h"
+#include "program/accesses.h"
 #include "base/tell.h"
 
 /* Each source that spbags-cc compiles asks for this. */

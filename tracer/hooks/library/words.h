@@ -9,8 +9,6 @@ static inline size_t all(const char *from) { return from ? strlen(from) + 1 : 0;
 static inline size_t some(const char *from, size_t most) { return strnlen(from, most) + (strnlen(from, most) < most); }
 static inline char *end(const char *from) { return (char *)from + strlen(from); }
 
-static inline size_t least(size_t a, size_t b) { return a < b ? a : b; }
-
 static inline size_t until(const void *from, int byte, size_t most) {
     const char *found = memchr(from, byte, most);
     return found ? (size_t)(found - (const char *)from) + 1 : most;

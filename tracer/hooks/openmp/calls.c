@@ -1,5 +1,4 @@
 /* What omp.h declares beside locks. What is asked of devices and places is answered as where there are none. */
-#include "library/words.h"
 #include "openmp/loops.h"
 #include "openmp/notes.h"
 #include "openmp/teams.h"

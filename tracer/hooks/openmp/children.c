@@ -2,6 +2,7 @@
 
 #include "records/look.h"
 #include "openmp/waits.h"
+#include "program/procedures.h"
 
 /* Whether something older than the newest scope is unsynced in its procedure. */
 static bool has_older(void) {

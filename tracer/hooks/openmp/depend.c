@@ -7,7 +7,7 @@
 #include "openmp/tasks.h"
 #include "base/settings.h"
 #include "base/source_line.h"
-#include "shadow/spans.h"
+#include "shadow/granules.h"
 
 /* What tasks of one parent name: whether one of them writes it in a period of the parent. */
 enum { DEPENDENCE_BITS = 22, MOST_DEPENDENCES = 1 << DEPENDENCE_BITS };

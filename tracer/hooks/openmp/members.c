@@ -7,6 +7,7 @@
 #include "openmp/parts.h"
 #include "openmp/silence.h"
 #include "openmp/turns.h"
+#include "program/procedures.h"
 
 static void begin_part(struct member *member, uintptr_t code) {
     *children_open(MEMBER, code) = member->scope;
@@ -72,7 +73,7 @@ static struct member *member_after(const struct member *member, uintptr_t code) 
     return next ? next : team->members;
 }
 
-struct stack *members_next_stack(const struct member *member) {
+static struct stack *next_stack(const struct member *member) {
     return member_after(member, member->scope.team->code)->stack;
 }
 
@@ -93,7 +94,7 @@ void members_wait(uintptr_t code) {
         scopes_push(GROUP, false)->reductions = kept[group].reductions;
 }
 
-void members_run(struct member *member, uintptr_t stack_end) {
+static void run_member(struct member *member, uintptr_t stack_end) {
     const struct team *team = member->scope.team;
     const struct region *region = &team->region;
     if (member->scope.thread > 0)
@@ -122,10 +123,12 @@ static bool is_done(const struct team *team) {
     return team->region.whole && loop->begun == loop->count && !loop->has_private;
 }
 
+static const struct turn turn_of_member = {run_member, next_stack};
+
 /* Makes the member of this number, whose scope AROUND is that of its team. */
 static void make_member(struct team *team, unsigned number, const struct scope *around, uint32_t node) {
     struct member *member = &team->members[number];
-    *member = (struct member){.stack = number == 0 ? stacks_running : turns_next_stack(member, node)};
+    *member = (struct member){.stack = number == 0 ? stacks_running : turns_next_stack(&turn_of_member, member, node)};
     uint64_t scope = scopes_new_number();
     member->scope = (struct scope){.kind = MEMBER,
                                    .owns = true,
@@ -156,7 +159,7 @@ void openmp_note_other(uintptr_t address, uintptr_t code) {
     const struct scope *thread = scopes_thread();
     bool in_share = is_in_share();
     for (unsigned at = 0; at < turns.stacks_used && (in_share || thread->in_body); at++)
-        if (&stacks[at] != stacks_running && own_is_of(&stacks[at].own, address))
+        if (&stacks[at] != stacks_running && own_is_of(&turns.own[at], address))
             notes_keep(&notes.others_own, code);
     for (unsigned number = 0; number < thread->size && in_share && thread->kind == MEMBER; number++)
         if ((int)number != thread->thread && is_in_region(&thread->team->members[number], address))
@@ -170,7 +173,7 @@ void members_do_region(struct team *team) {
     const struct scope *around = scopes.newest;
     for (unsigned number = 0; number < team->size; number++)
         make_member(team, number, around, node);
-    members_run(team->members, frames_top->end - 1);
+    run_member(team->members, frames_top->end - 1);
     for (unsigned number = 1; number < team->size && is_done(team); number++)
         team->members[number].has_ended = true;
     struct member *next = member_after(team->members, team->code);

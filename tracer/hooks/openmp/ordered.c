@@ -4,9 +4,9 @@
 #include "openmp/children.h"
 #include "openmp/notes.h"
 #include "openmp/shares.h"
+#include "shadow/granules.h"
 #include "shadow/own.h"
 #include "shadow/stacks.h"
-#include "shadow/units.h"
 
 void ordered_begin_loop(struct loop loop, uintptr_t code) {
     loop.ordered = true;

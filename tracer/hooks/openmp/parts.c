@@ -1,5 +1,7 @@
 #include "openmp/parts.h"
 
+#include "program/procedures.h"
+
 void parts_open(enum kind kind, uintptr_t stack_pointer, uintptr_t code) {
     if (!doing.tracing)
         return;

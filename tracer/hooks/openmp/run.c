@@ -1,5 +1,4 @@
 /* The beginning of a run with OpenMP, whose settings are those of the environment. */
-#include "library/words.h"
 #include "base/openmp.h"
 #include "openmp/bodies.h"
 #include "openmp/cancel.h"
@@ -72,7 +71,7 @@ __attribute__((constructor(102))) static void start_openmp(void) {
     cancel_is_allowed = is_true("OMP_CANCELLATION");
     loops.iterations = settings_number(SETTING_ITERATIONS);
     reductions_start();
-    stacks[0].own = own_find();
+    turns.own[0] = own_find();
     if (doing.tracing)
-        own_enter(&stacks[0].own);
+        own_enter(&turns.own[0]);
 }

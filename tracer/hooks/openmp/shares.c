@@ -1,6 +1,5 @@
 #include "openmp/shares.h"
 
-#include "library/words.h"
 #include "openmp/barriers.h"
 #include "openmp/children.h"
 #include "openmp/notes.h"

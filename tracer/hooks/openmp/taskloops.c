@@ -1,7 +1,6 @@
 #include "openmp/taskloops.h"
 
 #include "base/caller.h"
-#include "library/words.h"
 #include "openmp/children.h"
 #include "openmp/notes.h"
 #include "openmp/reductions.h"

@@ -1,6 +1,5 @@
 #include "openmp/teams.h"
 
-#include "library/words.h"
 #include "records/look.h"
 #include "openmp/children.h"
 #include "openmp/loops.h"

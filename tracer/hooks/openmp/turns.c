@@ -5,25 +5,37 @@
 #include "records/look.h"
 #include "base/memory.h"
 #include "openmp/bodies.h"
-#include "openmp/scopes.h"
-#include "shadow/own.h"
+#include "base/caller.h"
+#include "base/doing.h"
+#include "base/tell.h"
+#include "records/guards.h"
+#include "shadow/frames.h"
 #include "program/watch.h"
 
 struct turns turns = {.stacks_used = 1};
 /* What signals a member lets through. */
 static sigset_t members_mask;
 
+/* The guards that are held on each stack. */
+static struct {
+    struct guard list[MOST_GUARDS];
+    unsigned count;
+} kept[MOST_STACKS];
+
+static struct own_of_thread *own_of(const struct stack *stack) { return &turns.own[stack - stacks]; }
+
 /* What others have recorded there is forgotten. */
 static void enter_own(const struct stack *stack) {
+    const struct own_of_thread *own = own_of(stack);
     for (size_t at = 0; at < OWN_PARTS; at++)
-        locations_clear(stack->own.part[at].first, stack->own.part[at].end - stack->own.part[at].first);
-    own_enter(&stack->own);
+        locations_clear(own->part[at].first, own->part[at].end - own->part[at].first);
+    own_enter(own);
 }
 
 static void leave_stack(void) {
     struct stack *stack = stacks_running;
     if (doing.tracing)
-        own_leave(&stack->own);
+        own_leave(own_of(stack));
     stack->frames = frames_all;
     stack->frames_end = frames_end;
     stack->top = frames_top;
@@ -35,8 +47,8 @@ static void leave_stack(void) {
     stack->newest_body = bodies.newest;
     stack->initialising = frames_initialising;
     stack->hidden_updates = hidden_updates;
-    stack->guards_held = guards_held;
-    memcpy(stack->guards, guards, guards_held * sizeof *guards);
+    kept[stack - stacks].count = guards_held;
+    memcpy(kept[stack - stacks].list, guards, guards_held * sizeof *guards);
 }
 
 static void enter_stack(struct stack *stack) {
@@ -53,8 +65,8 @@ static void enter_stack(struct stack *stack) {
     bodies = (struct bodies){stack->bodies, stack->newest_body};
     frames_initialising = stack->initialising;
     hidden_updates = stack->hidden_updates;
-    guards_held = stack->guards_held;
-    memcpy(guards, stack->guards, guards_held * sizeof *guards);
+    guards_held = kept[stack - stacks].count;
+    memcpy(guards, kept[stack - stacks].list, guards_held * sizeof *guards);
     if (doing.tracing)
         enter_own(stack);
     short_way_find();
@@ -84,7 +96,7 @@ void turns_switch_to(struct stack *next) {
 /* The first turn of a member's thread. */
 static void prepare_thread(void) {
     sigaltstack(&(stack_t){.ss_sp = stacks_for_signals, .ss_size = sizeof stacks_for_signals}, NULL);
-    stacks_running->own = own_find();
+    *own_of(stacks_running) = own_find();
     if (doing.tracing)
         enter_own(stacks_running);
     watch_begin();
@@ -101,9 +113,9 @@ static void *take_turns(void *with) {
             prepare_thread();
         sigprocmask(SIG_SETMASK, &members_mask, NULL);
         struct member *member = stack->member;
-        members_run(member, STACK_POINTER);
+        stack->does->run(member, STACK_POINTER);
         sigprocmask(SIG_BLOCK, &all, NULL);
-        give_turn(members_next_stack(member));
+        give_turn(stack->does->next(member));
     }
     return NULL;
 }
@@ -141,7 +153,7 @@ static void add_stack(void) {
     start_thread(stack);
 }
 
-struct stack *turns_next_stack(struct member *member, uint32_t node) {
+struct stack *turns_next_stack(const struct turn *turn, struct member *member, uint32_t node) {
     if (turns.stacks_used == stacks_count)
         add_stack();
     struct stack *stack = &stacks[turns.stacks_used++];
@@ -149,7 +161,8 @@ struct stack *turns_next_stack(struct member *member, uint32_t node) {
     *stack->top = (struct frame){.kind = ROOT, .end = UINTPTR_MAX, .node = node};
     stack->grouped = stack->silent_frame = NULL;
     stack->newest_body = stack->bodies;
-    stack->guards_held = stack->initialising = stack->hidden_updates = 0;
+    kept[stack - stacks].count = stack->initialising = stack->hidden_updates = 0;
+    stack->does = turn;
     stack->member = member;
     return stack;
 }

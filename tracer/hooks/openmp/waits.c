@@ -2,7 +2,6 @@
    period that a taskwait ended; the second one goes by them. */
 #include "openmp/waits.h"
 
-#include "library/words.h"
 #include "base/memory.h"
 #include "base/openmp.h"
 

@@ -1,8 +1,8 @@
 /* The hooks of accesses. */
-#include "shadow/frames.h"
+#include "program/procedures.h"
 #include "records/guards.h"
 #include "program/locations.h"
-#include "program/noting.h"
+#include "program/accesses.h"
 
 /* An atomic access is made. */
 static bool is_atomic;
@@ -141,9 +141,9 @@ static inline void first_units(bool writes, uintptr_t at, size_t size, uintptr_t
     unsigned unit = unit_in_block(at);
     if (__builtin_expect(may_begin_quick(&in), 1))
         begin_quick(writes, &in, unit, size >> USUAL_SHIFT);
-    else if (doing.keeping_places && locations_noted_quickly && in.block->dead == 0 && !is_looked_at(&in))
+    else if (doing.keeping_places && strands_noted_quickly && in.block->dead == 0 && !is_looked_at(&in))
         first_with_site(writes, &in, unit, size >> USUAL_SHIFT, code);
-    else if (locations_noted_quickly)
+    else if (strands_noted_quickly)
         locations_touch_block(writes, at, at + size, code);
     else
         for (uintptr_t part = at; part < at + size; part += 1 << USUAL_SHIFT, unit++)

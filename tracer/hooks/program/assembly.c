@@ -1,7 +1,7 @@
 /* What stands beside a statement of the assembler. */
-#include "shadow/frames.h"
+#include "program/procedures.h"
 #include "records/guards.h"
-#include "program/noting.h"
+#include "program/accesses.h"
 #include "base/tell.h"
 
 void __spbags_asm(const volatile void *at, unsigned long size, int writes, int locked) {

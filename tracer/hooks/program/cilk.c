@@ -1,6 +1,6 @@
 /* The scopes and the loops of Cilk. A scope waits at its end for its own children, and so does a loop, each of whose
    iterations is a child. */
-#include "shadow/frames.h"
+#include "program/procedures.h"
 
 /* A scope of the function that calls this; it ends with the function at the latest. */
 const char *__spbags_enter(const char *place) {

@@ -2,11 +2,11 @@
    are free, and so many spans behind it. */
 #include "program/heap.h"
 
-#include "shadow/frames.h"
+#include "program/procedures.h"
 #include "program/locations.h"
 #include "records/look.h"
 #include "base/memory.h"
-#include "program/noting.h"
+#include "program/accesses.h"
 
 int __real_munmap(void *at, size_t size);
 
@@ -113,7 +113,7 @@ static struct life_end end_of_life(size_t span) {
 /* No unit of the span has an access any more. */
 static void end_span(size_t span) {
     if (doing.tracing)
-        records_end_life(end_of_life(span));
+        strands_end_life(end_of_life(span));
     else
         begin_life(span);
     spans[span] = (struct span){0};
@@ -275,7 +275,8 @@ static uint64_t *born_at(size_t span, uintptr_t address) {
     return &((struct head *)(span_first(span) + block_in(span, address) * spans[span].step))->born;
 }
 
-uint64_t heap_location_if_dead(uintptr_t address) {
+/* What stands for the block with this address, if it dies in the strand of its birth; or 0. */
+static uint64_t location_if_dead(uintptr_t address) {
     size_t span = span_of_block(address), number = span < SPANS ? block_in(span, address) : 0;
     return span < SPANS ? blocks_dead(span, number).location + 2 * (number % BLOCK_UNITS) : 0;
 }
@@ -386,7 +387,7 @@ static void give_back(void *block) {
 #define BLOCK(ALIGNMENT, SIZE) seen_block(new_block(ALIGNMENT, SIZE), SIZE, STACK_POINTER, CODE)
 static inline void *seen_block(void *block, size_t size, uintptr_t stack_pointer, uintptr_t code) {
     if (__builtin_expect(doing.looking, 0) && block)
-        look_at_block((uintptr_t)block, size, stack_pointer, code);
+        look_at_block((uintptr_t)block, size, location_if_dead((uintptr_t)block), stack_pointer, code);
     return block;
 }
 

@@ -14,8 +14,6 @@ void heap_end_aside(void);
 /* Whoever may still use a block that the program gives back has a race, as if all of it were written. */
 void heap_end_block(void *block, __spbags_function self, uintptr_t stack_pointer, uintptr_t code);
 
-/* What stands for the block with this address, if it dies in the strand of its birth; or 0. */
-uint64_t heap_location_if_dead(uintptr_t address);
 /* An access of a block that died in the strand of its birth. */
 void heap_use_dead(bool writes, uintptr_t address, uintptr_t code);
 

@@ -2,21 +2,12 @@
 
 #include "records/divided.h"
 #include "shadow/frames.h"
-#include "program/heap.h"
-#include "base/memory.h"
+#include "base/callbacks.h"
 #include "base/openmp.h"
-
-uintptr_t locations_of_marks;
-bool locations_noted_quickly, locations_stack_noted_quickly;
 
 /* Accesses that don't fill their units, and the bits of their addresses and sizes. */
 static uint64_t narrow_accesses;
 static uintptr_t narrow_bits;
-
-void locations_begin(void) {
-    const uintptr_t numbers = (uintptr_t)memory_reserve((stacks_size >> units_shift) * sizeof(uint64_t));
-    locations_of_marks = numbers - 2 * (uintptr_t)stack_mark(stacks_first);
-}
 
 struct ended locations_ended[ENDED_GROUPS];
 
@@ -60,23 +51,12 @@ void locations_clear(uintptr_t address, size_t size) {
         records_leave_out_dying(0);
 }
 
-void locations_follow_views(void) {
-    locations_noted_quickly = doing.plain && !reducers_any;
-    locations_stack_noted_quickly = locations_noted_quickly && !doing.looking && !doing.keeping_places;
-    short_way_leave();
-    leave_quick_sites();
-    for (size_t at = 0; at < strands_part.used && !locations_noted_quickly; at++)
-        if (strands_part.list[at].block)
-            clear_done(strands_part.list[at].done, UINT64_MAX, QUICK);
-    short_way_find();
-}
-
 void locations_note_stack(bool writes, uintptr_t address, uint32_t *mark, unsigned shift, uintptr_t code) {
     bool marks_write = writes;
     if (!is_of_running(address))
         openmp_note_other(address, code);
-    if (__builtin_expect(reducers_any, 0)) {
-        enum update update = reducers_update_of(address, shift, is_repeat(false, *mark));
+    if (__builtin_expect(views_any, 0)) {
+        enum update update = views_update_of(address, shift, is_repeat(false, *mark));
         if (update != NO_UPDATE && is_repeat(false, *mark))
             return;
         writes = writes && update == NO_UPDATE;
@@ -90,14 +70,14 @@ void locations_note_stack(bool writes, uintptr_t address, uint32_t *mark, unsign
 void locations_note_unit(bool writes, const struct touched *in, unsigned unit, uintptr_t address, uintptr_t code) {
     const uint64_t bit = (uint64_t)1 << unit;
     if ((in->block->dead & bit) != 0) {
-        heap_use_dead(writes, address, code);
+        callbacks.use_dead(writes, address, code);
         return;
     }
     if (in->block->has_own)
         openmp_note_other(address, code);
-    if (reducers_any) {
+    if (views_any) {
         bool repeats = was_done(false, in->done[unit]);
-        enum update update = reducers_update_of(address, units_shift, repeats);
+        enum update update = views_update_of(address, units_shift, repeats);
         if (update != NO_UPDATE && repeats)
             return;
         writes = writes && update == NO_UPDATE;
@@ -113,7 +93,7 @@ __attribute__((noinline)) static void note_units(bool writes, uintptr_t address,
                                                  uintptr_t code) {
     uint64_t units = new_units(writes, part.in.done, part.units);
     const struct block *block = part.in.block;
-    if (units != 0 && locations_noted_quickly && (units & block->dead) == 0 && !block->has_own &&
+    if (units != 0 && strands_noted_quickly && (units & block->dead) == 0 && !block->has_own &&
         !is_looked_at(&part.in) && !(doing.keeping_places && units_narrow.end != 0)) {
         note_in_block(writes, &part.in, units, code);
         if (!doing.keeping_places)

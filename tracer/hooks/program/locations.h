@@ -5,17 +5,9 @@
 #define SPBAGS_LOCATIONS_H
 
 #include "records/look.h"
-#include "shadow/marks.h"
 #include "records/records.h"
-#include "program/reducers.h"
-
-void locations_begin(void);
-/* A unit of the stack that is marked has its number, which stands where twice the address of the mark says. */
-extern uintptr_t locations_of_marks;
-static inline uint64_t *number_of(const uint32_t *mark) {
-    _Static_assert(sizeof(uint64_t) == 2 * sizeof *mark, "a number has the place of another one");
-    return (uint64_t *)(locations_of_marks + 2 * (uintptr_t)mark);
-}
+#include "records/views.h"
+#include "shadow/marks.h"
 
 /* Of the unit of the stack that begins at this address. A signal's handler that gave a number meanwhile would give the same
    one. */
@@ -96,19 +88,13 @@ void locations_clear(uintptr_t address, size_t size);
 
 /* ---- Accesses ---- */
 
-/* Without views of reducers, if the run is plain, a unit is noted quickly. A run that looks needs the location of each
-   unit of the stack, and those of blocks that have a race; and one that keeps places the code of each access. */
-extern bool locations_noted_quickly, locations_stack_noted_quickly;
-/* After a change of either. */
-void locations_follow_views(void);
-
 /* A unit of the stack that is accessed, by its first address and its mark: it is no repeat. An update of a view counts
    as a read; where another variable has a part of the unit, the mark is that of a read too. */
 void locations_note_stack(bool writes, uintptr_t address, uint32_t *mark, unsigned shift, uintptr_t code);
 
 /* Whether there is nothing else to do. */
 static inline bool is_noted_quickly(uintptr_t address, const uint32_t *mark) {
-    return locations_stack_noted_quickly && is_of_running(address) && !(*mark == UNTOUCHED && is_window_full());
+    return strands_stack_noted_quickly && is_of_running(address) && !(*mark == UNTOUCHED && is_window_full());
 }
 
 /* Then this is done in a step; the location, whose record comes now. */
@@ -155,7 +141,7 @@ static inline bool is_looked_at(const struct touched *in) {
 
 static inline bool may_begin_quick(const struct touched *in) {
     const struct block *block = in->block;
-    return locations_noted_quickly && block->place == 0 && block->dead == 0 && !block->has_own && !is_looked_at(in) &&
+    return strands_noted_quickly && block->place == 0 && block->dead == 0 && !block->has_own && !is_looked_at(in) &&
            !doing.keeping_places;
 }
 

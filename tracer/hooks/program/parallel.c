@@ -1,10 +1,12 @@
 /* What the headers of include/tbb and include/execution call: the children of oneTBB's algorithms and of C++'s own
    parallel ones, and the tasks of oneTBB's groups. */
-#include "shadow/frames.h"
+#include "program/parallel.h"
+
+#include "program/procedures.h"
 #include "records/guards.h"
 #include "records/look.h"
 #include "base/memory.h"
-#include "program/noting.h"
+#include "program/accesses.h"
 #include "base/source_line.h"
 #include "program/watch.h"
 

@@ -3,7 +3,7 @@
    behind the other is one piece. */
 #include "shadow/frames.h"
 #include "program/locations.h"
-#include "program/noting.h"
+#include "program/accesses.h"
 
 struct dimension {
     intptr_t step;

@@ -1,9 +1,7 @@
 /* The spawns of C++, for include/spbags/spawn.h, which has the code that these are called for. */
-#include "program/spawns_cplusplus.h"
-
-#include "shadow/frames.h"
+#include "program/procedures.h"
 #include "program/locations.h"
-#include "program/noting.h"
+#include "program/accesses.h"
 
 /* The arguments that the parent has read, and the end of the statement's frame once that is a child. A copy of one for
    the call is no access of the child's. */
@@ -12,7 +10,8 @@ static struct { uintptr_t first, end; } passed[MOST_PASSED];
 static unsigned passed_count;
 static uintptr_t passing;
 
-bool spawns_passed(uintptr_t at, size_t size) {
+/* Whether this is an argument that the parent has read. */
+static bool is_passed(uintptr_t at, size_t size) {
     for (unsigned number = 0; number < passed_count && passing == frames_top->end; number++)
         if (at >= passed[number].first && at + size <= passed[number].end)
             return true;
@@ -31,7 +30,7 @@ void __spbags_passed(const volatile void *at, unsigned long size, const void *co
 
 /* The copy of an argument in memory for a call. */
 void __spbags_argument(const volatile void *at, unsigned long size) {
-    if (!spawns_passed((uintptr_t)at, size))
+    if (!is_passed((uintptr_t)at, size))
         NOTE(false, at, size);
 }
 

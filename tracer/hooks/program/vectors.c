@@ -1,6 +1,6 @@
 /* What stands beside an instruction of the compiler's that goes to memory by a pointer. */
-#include "shadow/frames.h"
-#include "program/noting.h"
+#include "program/procedures.h"
+#include "program/accesses.h"
 #include "base/tell.h"
 
 void __spbags_vector(const volatile void *at, unsigned long size, int writes) { NOTE(writes, at, size); }

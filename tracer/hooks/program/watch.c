@@ -5,7 +5,7 @@
 #include "program/watch.h"
 
 #include "base/doing.h"
-#include "program/noting.h"
+#include "program/accesses.h"
 #include "records/records.h"
 #include "base/settings.h"
 #include "base/tell.h"

@@ -19,6 +19,8 @@ extern struct course {
     uint64_t guards, guards_before, guards_strand;
     /* Of the blocks of a part of a strand. */
     unsigned __int128 units;
+    /* How many parts of strands have gone out. */
+    uint64_t parts;
 } course;
 /* A run that isn't plain ends behind so many records. */
 extern uint64_t course_last_record;
@@ -41,7 +43,11 @@ static inline void course_part(void) {
         course_mix(&course.digest, (uint64_t)(course.units >> 64));
         course.units = 0;
     }
+    course.parts++;
 }
+
+/* The number of the part at hand. */
+static inline uint64_t part_now(void) { return course.parts + 1; }
 
 static inline void course_stack(bool writes, uint64_t location) {
     course.records++;

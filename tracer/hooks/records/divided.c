@@ -1,7 +1,8 @@
 #include "records/divided.h"
 
-#include "program/locations.h"
 #include "base/memory.h"
+#include "records/strands.h"
+#include "shadow/marks.h"
 
 bool divided_any;
 
@@ -26,9 +27,9 @@ static struct divided *slot_of_unit(uint64_t location) {
     return &divided_units[slot];
 }
 
-static void put_byte(struct divided *unit, size_t byte, bool writes, uintptr_t address, uintptr_t code) {
+static uint64_t location_of_byte(const struct divided *unit, size_t byte) {
     uint64_t around = unit->fresh[byte] != 0 ? unit->fresh[byte] : unit->location;
-    records_begin_byte(writes, first_byte + MOST_BYTES * around + byte, address, code);
+    return first_byte + MOST_BYTES * around + byte;
 }
 
 /* Units of blocks have no repeats in one part of a strand. */
@@ -40,7 +41,8 @@ static void follow_unit(struct divided *unit, bool writes) {
     course_unit(writes, unit->location);
 }
 
-bool divided_access(bool writes, const struct touched *in, uint64_t location, uintptr_t address, uintptr_t code) {
+bool divided_access(bool writes, const struct touched *in, uint64_t location, uintptr_t address, uintptr_t code,
+                    divided_put *put) {
     struct divided *unit = slot_of_unit(location);
     if (unit->location == 0)
         return false;
@@ -55,7 +57,7 @@ bool divided_access(bool writes, const struct touched *in, uint64_t location, ui
     for (size_t byte = 0; byte <= units_mask; byte++)
         if ((left_out >> byte & 1) == 0 && !is_repeat(writes, unit->marks[byte])) {
             unit->marks[byte] = new_mark(writes);
-            put_byte(unit, byte, writes, address + byte, code);
+            put(writes, location_of_byte(unit, byte), address + byte, code);
         }
     return true;
 }

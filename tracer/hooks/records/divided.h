@@ -11,8 +11,11 @@
 extern bool divided_any;
 
 void divided_begin(int file);
-/* Whether the unit with this location is divided, and then the record of the access has gone out. */
-bool divided_access(bool writes, const struct touched *in, uint64_t location, uintptr_t address, uintptr_t code);
+/* What puts the record of a byte. */
+typedef void divided_put(bool writes, uint64_t location, uintptr_t address, uintptr_t code);
+/* Whether the unit with this location is divided, and then the record of each of its bytes is put. */
+bool divided_access(bool writes, const struct touched *in, uint64_t location, uintptr_t address, uintptr_t code,
+                    divided_put *put);
 /* Memory of the stack that has no variable any more, and whose unit has: those bytes get other locations. */
 __attribute__((cold)) void divided_clear(uintptr_t address, uintptr_t end);
 /* Numbers of strands begin again. */

@@ -83,3 +83,46 @@ const struct guard *guards_common(uint32_t list, uint32_t other) {
         guard++;
     return guard < end ? guard : NULL;
 }
+
+/* ---- Who has entered them ---- */
+
+uint64_t held_filter[HELD_FILTER / 64];
+static struct held_procedures procedures;
+
+/* In the order of the run. Beyond so many no more are noted. */
+enum { MOST_ENTRIES = 1 << 20 };
+struct held_entry {
+    uintptr_t guard;
+    uint32_t procedure;
+};
+static struct held_entry *entries;
+static uint32_t entries_count;
+
+void held_begin(struct held_procedures given) { procedures = given; }
+
+uint32_t held_want(uint32_t list) {
+    const struct guard *guard = guards_listed + guards_lists[list].first, *end = guard + guards_lists[list].length;
+    for (; guard < end; guard++)
+        if (guard->id > UNKNOWN_GUARD)
+            held_filter[held_bit(guard->id) / 64] |= (uint64_t)1 << held_bit(guard->id) % 64;
+    return entries_count;
+}
+
+void held_note(uintptr_t id) {
+    if (!entries)
+        entries = memory_reserve(MOST_ENTRIES * sizeof *entries);
+    if (entries_count < MOST_ENTRIES)
+        entries[entries_count++] = (struct held_entry){id, procedures.now()};
+}
+
+const struct guard *held_since(uint32_t noted, uint32_t list, uint32_t node) {
+    /* So a search among many is short. */
+    enum { MOST_SEARCHED = 1 << 12 };
+    uint32_t first = entries_count - noted > MOST_SEARCHED ? entries_count - MOST_SEARCHED : noted;
+    for (uint32_t at = entries_count; at > first; at--) {
+        const struct guard *guard = guards_excluded(list, entries[at - 1].guard);
+        if (guard && procedures.has(node, entries[at - 1].procedure))
+            return guard;
+    }
+    return NULL;
+}

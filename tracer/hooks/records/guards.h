@@ -1,14 +1,12 @@
-#ifndef SPBAGS_GUARDS_H
-#define SPBAGS_GUARDS_H
-
-#include "base/common.h"
-#include "records/course.h"
-#include "records/held.h"
-#include "shadow/spans.h"
-
 /* What the program holds now: locks, critical regions, and of an atomic access itself. It is noted beside an access by a
    run that looks and by one that keeps its places: two accesses that hold one same guard aren't a data race, though
    either may come first. */
+#ifndef SPBAGS_GUARDS_H
+#define SPBAGS_GUARDS_H
+
+#include "records/course.h"
+#include "shadow/granules.h"
+
 enum { MOST_GUARDS = 16 };
 
 /* Every atomic access holds the first of these, and the second is what can't be told. All others are named by addresses. */
@@ -26,6 +24,36 @@ extern bool guards_noted;
 
 /* Reserves what the run notes them in. */
 void guards_begin(void);
+
+/* ---- Who has entered them ---- */
+
+/* In a later run of spbags-run: what a procedure entered after the first access of a race that held it. A second access
+   that this procedure makes then comes after the first one in this run, by the lock. That run knows the procedure that
+   runs, and whether a node is of a procedure. */
+struct held_procedures {
+    uint32_t (*now)(void);
+    bool (*has)(uint32_t node, uint32_t procedure);
+};
+void held_begin(struct held_procedures procedures);
+
+/* Most guards that no first access held have no bit here. */
+enum { HELD_FILTER = 1 << 12 };
+extern uint64_t held_filter[HELD_FILTER / 64];
+
+static inline size_t held_bit(uintptr_t id) { return (id >> 1) * 0x9e3779b97f4a7c15u >> 52; }
+
+static inline bool held_is_wanted(uintptr_t id) {
+    return (held_filter[held_bit(id) / 64] >> held_bit(id) % 64 & 1) != 0;
+}
+
+/* From here on each entry of these guards, but for atomic accesses, is noted. How many were noted before. */
+uint32_t held_want(uint32_t list);
+/* The running procedure enters this guard. */
+void held_note(uintptr_t id);
+/* The newest guard of a list that the procedures of this node have entered since so many were noted, or null. */
+const struct guard *held_since(uint32_t noted, uint32_t list, uint32_t node);
+
+/* ---- Entering and leaving ---- */
 
 /* The guard with this number is held from here on; one that is entered twice is left twice. The name stays where it is;
    where it ends with a space the report adds the name of the variable whose address the number is. Beyond so many that

@@ -1,17 +1,13 @@
 #include "records/look.h"
 
-#include "run/closing.h"
-#include "records/guards.h"
-#include "program/heap.h"
-#include "records/held.h"
+#include "base/callbacks.h"
 #include "base/memory.h"
-#include "program/noting.h"
 #include "base/output.h"
+#include "records/course.h"
+#include "records/guards.h"
+#include "records/steps.h"
 #include "shadow/own.h"
-#include "records/records.h"
-#include "program/reducers.h"
 #include "shadow/stacks.h"
-#include "records/strands.h"
 
 uint64_t look_place_now, look_next_place = UINT64_MAX, look_blocks[(1 << LOOK_BLOCK_BITS) / 64];
 bool look_is_pending;
@@ -270,8 +266,8 @@ static uint64_t site_of(uintptr_t code, uint32_t node) {
 }
 
 /* A block with a race is noted, and who allocates it. A function that longjmp left is no caller. */
-void look_at_block(uintptr_t address, size_t size, uintptr_t stack_pointer, uintptr_t code) {
-    uint64_t dead = heap_location_if_dead(address), first = 2 * (name_in_life(address) >> units_shift);
+void look_at_block(uintptr_t address, size_t size, uint64_t dead, uintptr_t stack_pointer, uintptr_t code) {
+    uint64_t first = 2 * (name_in_life(address) >> units_shift);
     address = name_in_life(address);
     if (size == 0 || !(has_race(first, 2 * ((address + size - 1) >> units_shift)) || has_race(dead, dead)))
         return;
@@ -399,7 +395,7 @@ static void take_look(struct race *race, struct look *look, uintptr_t address, u
     race->address = name_in_life(address);
     race->frame = frame_owner(address, look);
     race->data = data_owner(address, look);
-    race->is_view = reducers_have(address);
+    race->is_view = callbacks.is_of_view(address);
     race->meeting = meeting(race->first.node, look->node);
     race->waits = 0;
 }
@@ -409,7 +405,7 @@ void look_note_pending(bool writes, uint64_t location, uintptr_t address, uintpt
     struct race *race = may_race(location) ? &races[race_from(location)] : NULL;
     if (!race || race == races + races_count || race->location != location)
         return;
-    records_put_rest();
+    steps_put_rest();
     struct look *look = race->first.place > look_place_now ? &race->first : &race->second;
     if (look->writes != writes || look->place <= look_place_now || look->part == part_now())
         return;
@@ -464,7 +460,7 @@ static void next_stop(void) {
     if (astray[0] == '\0')
         look_next_place = ++stops_met < stops_count ? stops[stops_met].place : UINT64_MAX;
     if (look_next_place == UINT64_MAX && course_last_record != UINT64_MAX)
-        closing_end_run();
+        callbacks.end_run();
 }
 
 void look_at_structure(void) {
@@ -735,5 +731,6 @@ void look_begin(int file) {
     slots = memory_reserve(PAIR_SLOTS * sizeof *slots);
     thread_first = own_first_of_thread();
     guards_begin();
+    held_begin((struct held_procedures){look_procedure_now, look_is_in});
     doing.looking = true;
 }

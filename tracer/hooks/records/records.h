@@ -1,85 +1,13 @@
-/* What goes out for each record of the run: a line of the trace, a step of the detector inside, or in a run that looks
-   nothing but its number. */
+/* What is done for each record of a run as it comes: it goes out when its strand ends, or at once. */
 #ifndef SPBAGS_RECORDS_H
 #define SPBAGS_RECORDS_H
 
-#include "run/closing.h"
+#include "base/tell.h"
 #include "records/course.h"
-#include "run/detector.h"
 #include "records/look.h"
 #include "records/places.h"
+#include "records/recent.h"
 #include "records/strands.h"
-#include "base/tell.h"
-
-/* The run may end behind the newest record, by closing.h. */
-static inline void end_at_last(void) {
-    if (__builtin_expect(course.records >= course_last_record, 0))
-        closing_end_run();
-}
-
-static inline void begin_record(void) {
-    if (__builtin_expect(changes > 0, 0) && doing.tracing)
-        changes_refuse_handler();
-    begin_change();
-}
-
-/* The newest records in a run that isn't plain, packed as in the others, with the numbers of their sites; how many
-   have gone out, and how many went before. */
-extern struct recent_records {
-    struct recent {
-        uint64_t record;
-        uint16_t site;
-    } list[WINDOW];
-    size_t used, gone;
-    uintptr_t before;
-} records_recent;
-
-/* How many records went before, but for those that are left out. */
-static inline uintptr_t records_so_far(void) {
-    return __builtin_expect(doing.plain, 1) ? steps_so_far() : records_recent.before + records_recent.used;
-}
-
-/* Between these two records are put, or blocks. */
-static inline void begin_records(void) {
-    if (__builtin_expect(doing.plain, 1))
-        begin_step();
-    else
-        begin_record();
-}
-
-static inline void finish_records(void) {
-    if (__builtin_expect(doing.plain, 1))
-        end_step();
-    else
-        end_change();
-}
-
-/* What is in the window can't be left out any more. */
-void records_end_window(void);
-/* The accesses of the numbers that die are left out; before so many records there are none. */
-void records_leave_out_dying(uintptr_t before);
-/* Some numbers of the stack have ended. */
-void records_end_numbers(uint64_t location);
-/* A strand ends, or a part of it. Where the run ends meanwhile, as a signal handler may end it, the rest goes out
-   then. */
-void records_put_strand(void);
-/* In a plain run what can't be left out any more goes into the trace, or is looked at. */
-void records_put_rest(void);
-/* What hasn't gone out never does, and what is open is so in what has. */
-void records_drop(void);
-
-/* The end of a life: the span, how many blocks of locations stand for what died in one strand, and whether such a block
-   was used then. If it wasn't, none of these locations has another access. */
-struct life_end {
-    size_t span;
-    unsigned dead;
-    bool is_dead_used;
-};
-
-/* A span begins another life. */
-void records_end_life(struct life_end end);
-
-/* ---- Records as they come ---- */
 
 /* What is done for one in a run that isn't plain, where divided.h and look.h have their part. */
 void records_structure(enum spbags_kind kind, uintptr_t code);
@@ -137,13 +65,8 @@ static inline void block_record(bool writes, const struct touched *in, unsigned 
         records_access(writes, in, in->location + 2 * unit, address, code);
 }
 
-/* ---- For units that are divided into their bytes ---- */
-
-/* The access of a byte, which goes out at once. */
-void records_begin_byte(bool writes, uint64_t location, uintptr_t address, uintptr_t code);
-/* ---- The beginning of a run, and what has come ---- */
-
-void records_begin(void);
+/* What hasn't gone out never does, and what is open is so in what has. */
+void records_drop(void);
 /* Whether there was a record since this was asked last, other than of the stack's memory. */
 bool records_have_new(void);
 

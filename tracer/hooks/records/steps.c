@@ -1,16 +1,18 @@
 #include "records/steps.h"
 
-#include "run/detector.h"
 #include "shadow/marks.h"
-#include "records/strands.h"
 
 uint64_t *steps_next, *steps_window, *steps_end, *steps_pause;
 uintptr_t steps_origin;
+uint64_t window_last_number, window_number;
+bool window_leaves_out;
+struct dying window_dying = {.first = WINDOW_NUMBERS};
 
 /* Up to where the memory at hand has been looked through, and whether something new was there that steps_have_new
    hasn't told. */
 static const uint64_t *seen;
 static bool is_new;
+static steps_hand_over *hand_over;
 
 /* A record begins one strand at most. */
 static void find_pause(void) {
@@ -20,7 +22,8 @@ static void find_pause(void) {
         steps_pause = steps_next + strands;
 }
 
-void steps_begin(uint64_t *memory) {
+void steps_begin(uint64_t *memory, steps_hand_over *given) {
+    hand_over = given;
     seen = steps_next = memory;
     steps_end = memory + STEPS_AT_HAND;
     pass_steps();
@@ -52,12 +55,27 @@ void steps_pass_on(void) {
     int error = errno;
     look_for_new();
     const uint64_t *kept = steps_window, *end = steps_next;
-    uint64_t *memory = detects() ? detector_hand_over(kept) : records_write_out(kept);
+    uint64_t *memory = hand_over(kept);
     steps_origin += (uintptr_t)memory - (uintptr_t)kept;
-    steps_begin(memory);
+    steps_begin(memory, hand_over);
     while (kept < end)
         *steps_next++ = *kept++;
     errno = error;
+}
+
+void steps_put_rest(void) {
+    if (doing.plain && !detects() && steps_window > steps_end - STEPS_AT_HAND)
+        steps_pass_on();
+}
+
+void steps_put_words(uint64_t record, const uint64_t *words, size_t count) {
+    pass_steps();
+    if ((size_t)(steps_end - steps_next) <= 1 + count)
+        steps_pass_on();
+    *steps_next++ = record;
+    for (size_t at = 0; at < count; at++)
+        *steps_next++ = words[at];
+    pass_steps();
 }
 
 void steps_leave_out(uintptr_t before) {

@@ -7,24 +7,14 @@
 
 #include "base/common.h"
 
-#include "../include/spbags_inside.h"
-#include "shadow/blocks.h"
-#include "records/course.h"
 #include "base/doing.h"
+#include "records/course.h"
+#include "shadow/blocks.h"
 #include "shadow/own.h"
 
 #ifndef MOST_BLOCKS
 #define MOST_BLOCKS 4096
 #endif
-/* Beside records of the run the detector's thread gets this kind of record, with the location of a block's first unit:
-   its masks of reads and of writes follow. */
-static const unsigned block_follows = SPBAGS_WRITE + 1;
-/* And this kind where locations have ended. No access of them comes any more, so what the detector keeps of them is of no
-   use, at once or later. With an odd location they are some numbers of the stack of one group, with a bit for each. With
-   an even one a mask follows, with a bit for each of the blocks from that one on. */
-static const unsigned numbers_end = SPBAGS_WRITE + 2;
-enum { GROUP_NUMBERS = 16 };
-
 static inline bool is_gathered(uint64_t location) { return location % 2 == 0 && !is_of_byte(location); }
 
 /* So many blocks before one goes out, it is looked for. */
@@ -39,10 +29,9 @@ struct block_sites {
     uint16_t of[BLOCK_UNITS];
 };
 
-/* The part at hand: how many went before, its blocks, without one where that has gone out alone, and the sites of their
-   accesses where these are kept. */
+/* The part at hand: its blocks, without one where that has gone out alone, and the sites of their accesses where these
+   are kept. */
 extern struct part_of_strand {
-    uint64_t before;
     size_t used;
     /* Whether something was left out. */
     bool has_gaps;
@@ -50,14 +39,12 @@ extern struct part_of_strand {
     struct block_sites sites[MOST_BLOCKS][2];
 } strands_part;
 
-static inline uint64_t part_now(void) { return strands_part.before + 1; }
-
 static inline void place_block(const struct touched *touched) {
     strands_part.list[strands_part.used] = *touched;
     touched->block->place = (uint32_t)++strands_part.used;
 }
 
-/* Makes room for another block; or what the strand has done so far goes out, by the records. */
+/* Makes room for another block; or what the strand has done so far goes out. */
 __attribute__((cold)) void strands_make_room(void);
 
 /* The block has its place then. */
@@ -99,8 +86,30 @@ static inline void note_sites(bool writes, const struct touched *in, uint64_t un
         strands_note_others(writes, in, units, word);
 }
 
-/* What a plain run has done with these units, which doesn't go out, is of its course. */
-void strands_follow(const struct touched *touched, uint64_t units);
+/* Without views of reducers, if the run is plain, a unit is noted quickly. A run that looks needs the location of each
+   unit of the stack, and those of blocks that have a race; and one that keeps places the code of each access. */
+extern bool strands_noted_quickly, strands_stack_noted_quickly;
+/* After a change of whether there are views. */
+void strands_follow_views(bool are_there);
+
+/* ---- What goes out ---- */
+
+/* A strand ends, or a part of it. Where the run ends meanwhile, as a signal handler may end it, the rest goes out
+   then. */
+void strands_put(void);
+/* What hasn't gone out never does. */
+void strands_drop(void);
+
+/* The end of a life: the span, how many blocks of locations stand for what died in one strand, and whether such a block
+   was used then. If it wasn't, none of these locations has another access. */
+struct life_end {
+    size_t span;
+    unsigned dead;
+    bool is_dead_used;
+};
+
+/* A span begins another life. */
+void strands_end_life(struct life_end end);
 /* This memory of a heap block dies in the strand of its birth: its accesses are left out, as far as they haven't gone
    out. */
 void strands_set_dead(uintptr_t address, uintptr_t end);

@@ -6,7 +6,8 @@
 #include "base/output.h"
 #include "records/places.h"
 #include "base/settings.h"
-#include "records/strands.h"
+#include "records/steps.h"
+#include "shadow/blocks.h"
 #include "base/tell.h"
 
 #ifdef SPBAGS_INSIDE
@@ -45,21 +46,12 @@ static void give_bundle(const uint64_t *end) {
     sem_post(&full_bundles);
 }
 
-uint64_t *detector_hand_over(const uint64_t *end) {
+/* The bundle is full up to here; the memory of the next one. */
+static uint64_t *hand_over(const uint64_t *end) {
     give_bundle(end);
     wait_for(&free_bundles);
     filling = &bundles[(filling - bundles + 1) % BUNDLES];
     return filling->records;
-}
-
-void detector_step_words(uint64_t record, const uint64_t *words, size_t count) {
-    pass_steps();
-    if ((size_t)(steps_end - steps_next) <= 1 + count)
-        steps_pass_on();
-    *steps_next++ = record;
-    for (size_t at = 0; at < count; at++)
-        *steps_next++ = words[at];
-    pass_steps();
 }
 
 /* ---- What the detector's thread does ---- */
@@ -280,7 +272,7 @@ static void start_thread(void) {
     sem_init(&full_bundles, 0, 0);
     sem_init(&free_bundles, 0, BUNDLES - 1);
     filling = bundles;
-    steps_begin(filling->records);
+    steps_begin(filling->records, hand_over);
     sigfillset(&all);
     sigprocmask(SIG_BLOCK, &all, &before);
     mprotect(stack, GUARD, PROT_NONE);

@@ -5,9 +5,6 @@
 
 #include "base/common.h"
 
-#include "base/changes.h"
-#include "records/steps.h"
-
 #ifdef SPBAGS_INSIDE
 /* The detector has a thread of its own, which alone calls it. The program's thread hands it the records in bundles, and
    fills one while the detector goes through those before. */
@@ -25,21 +22,12 @@ void detector_share_progress(int file);
 void detector_end(bool has_more_to_say);
 /* Behind a report for a user's eyes: how many races it leaves out, and the command that shows the source lines. */
 void detector_tell_next(void);
-
-/* The bundle is full up to here; the memory of the next one. */
-uint64_t *detector_hand_over(const uint64_t *end);
-/* In a step a record with words behind it. Nothing before it can be left out any more. */
-void detector_step_words(uint64_t record, const uint64_t *words, size_t count);
 #else
 enum { detector_has_races = false, detector_spawns = 0, detector_accesses = 0 };
 static inline void detector_begin(void) {}
 static inline void detector_share_progress(int file) { close(file); }
 static inline void detector_end(bool has_more_to_say) { (void)has_more_to_say; }
 static inline void detector_tell_next(void) {}
-static inline uint64_t *detector_hand_over(const uint64_t *end) { return (void)end, NULL; }
-static inline void detector_step_words(uint64_t record, const uint64_t *words, size_t count) {
-    (void)record, (void)words, (void)count;
-}
 #endif
 
 #endif

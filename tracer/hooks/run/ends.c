@@ -1,9 +1,86 @@
 #include "run/ends.h"
 
-#include "run/closing.h"
-#include "run/detector.h"
+#include "base/openmp.h"
+#include "base/output.h"
 #include "base/settings.h"
 #include "base/tell.h"
+#include "library/unknown.h"
+#include "program/locations.h"
+#include "records/course.h"
+#include "records/look.h"
+#include "records/places.h"
+#include "records/records.h"
+#include "run/detector.h"
+#include "program/procedures.h"
+
+/* ---- The trace or the report ends ---- */
+
+void ends_stop(void) {
+    doing.tracing = false;
+    short_way_find();
+}
+
+/* How much was there, for spbags-run. Builds run programs in which nothing is, and read what they print. */
+static void tell_extent(void) {
+    char record[100];
+    snprintf(record, sizeof record, "ran %" PRIu64 " %" PRIu64, detector_spawns, detector_accesses);
+    if (detects() && tells_records())
+        tell_text(record, "");
+}
+
+static void tell_notes(void) {
+    if (has_had_children())
+        locations_tell_narrow();
+    else if (tells_records())
+        tell_incomplete("nothing ran in parallel: the program made no spawn, task or iteration");
+    if (procedures_most > DEFAULT_DEPTH + 1 && !detects())
+        tell_record(tell_numbered("depth", procedures_most - 1).text,
+                    "procedures nest %u deep, so spbags needs --depth %u or more", procedures_most - 1,
+                    procedures_most - 1);
+    openmp_tell_notes();
+    unknown_tell();
+}
+
+static void end_outcome(void) {
+    sigset_t all, before;
+    sigfillset(&all);
+    sigprocmask(SIG_BLOCK, &all, &before);
+    ends_stop();
+    strands_put();
+    steps_put_rest();
+    course_tell();
+    outcome.most = look_next_place = course_last_record = UINT64_MAX;
+    while (procedures_count > 0)
+        procedures_close(0);
+    steps_put_rest();
+    if (doing.looking)
+        look_put_notes();
+    tell_notes();
+    if (detects())
+        detector_end(has_had_children() || tell_has_told);
+    tell_extent();
+    places_end();
+    output_close(&outcome);
+    detector_tell_next();
+    sigprocmask(SIG_SETMASK, &before, NULL);
+}
+
+void ends_end_run(void) {
+    end_outcome();
+    __real__exit(0);
+}
+
+void ends_at_limit(void) {
+    uint64_t most = outcome.most;
+    records_drop();
+    end_outcome();
+    fail_by(tell_numbered("end limit", most).text,
+            "the trace has reached its limit of %llu bytes, so the run ends here, and the trace has what came before: "
+            "SPBAGS_MAX_BYTES sets another limit",
+            (unsigned long long)most);
+}
+
+/* ---- The program ends ---- */
 
 static pid_t traced_process;
 
@@ -25,7 +102,7 @@ static int own_status = PROGRAMS_OWN;
 
 /* The status with which the program is to end, which would end with this one. */
 static int end_trace_of(int status) {
-    closing_end();
+    end_outcome();
     if (ends_racy_status == PROGRAMS_OWN)
         return status;
     if (detector_has_races)
@@ -171,7 +248,7 @@ pid_t __wrap__Fork(void) {
     tell_fork();
     pid_t child = __real__Fork();
     if (child == 0)
-        closing_stop();
+        ends_stop();
     return child;
 }
 
@@ -197,7 +274,7 @@ static void watch_thread_end(void) {
 void ends_begin(void) {
     traced_process = getpid();
     watch_thread_end();
-    pthread_atfork(tell_fork, NULL, closing_stop);
+    pthread_atfork(tell_fork, NULL, ends_stop);
     at_quick_exit(quick_end);
     on_exit(keep_status, NULL);
 }

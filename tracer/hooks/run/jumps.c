@@ -1,10 +1,10 @@
 /* The buffers of setjmp and longjmp, and jumps out of a signal's handler. */
 #include "base/doing.h"
-#include "run/ends.h"
 #include "program/hidden.h"
-#include "program/noting.h"
+#include "program/accesses.h"
 #include "base/source_line.h"
 #include "base/tell.h"
+#include "run/signals.h"
 
 /* For the stubs below: with the address and the stack pointer of the call. */
 __attribute__((used)) static void write_jump_buffer(void *at, uintptr_t code, uintptr_t stack_pointer) {

@@ -1,27 +1,43 @@
 /* How a run begins. */
-#include "run/closing.h"
+#include "base/callbacks.h"
 #include "records/course.h"
 #include "run/detector.h"
 #include "records/divided.h"
 #include "run/ends.h"
 #include "shadow/frames.h"
 #include "program/heap.h"
-#include "program/locations.h"
+#include "records/lines.h"
 #include "records/look.h"
 #include "base/openmp.h"
 #include "base/output.h"
+#include "shadow/marks.h"
 #include "shadow/own.h"
 #include "records/places.h"
 #include "base/settings.h"
 #include "library/streams.h"
+#include "program/parallel.h"
 #include "program/watch.h"
+#include "records/views.h"
+#include "run/signals.h"
+
+static void forget_strands(void) {
+    divided_forget();
+    views_forget();
+}
+
+const struct callbacks callbacks = {.end_run = ends_end_run,
+                                    .end_by_signal = signals_end_run,
+                                    .forget_strands = forget_strands,
+                                    .use_dead = heap_use_dead,
+                                    .is_of_view = views_have,
+                                    .leave_groups = parallel_leave_groups};
 
 /* A number of bytes for the trace; where none is said, a quarter of the space that is free where it goes to a file. */
 static void set_limit(bool is_file) {
     struct statvfs space;
     if (is_file && fstatvfs(outcome.file, &space) == 0)
         outcome.most = space.f_bavail * space.f_frsize / 4;
-    outcome.at_limit = closing_at_limit;
+    outcome.at_limit = ends_at_limit;
     outcome.most = settings_number_or(SETTING_MAX_BYTES, outcome.most);
 }
 
@@ -101,7 +117,6 @@ static void find_stack(void) {
     stacks[0].first = stacks_running_first;
     stacks[0].end = stacks_running_first + stacks_running_size;
     marks_begin(stacks_first, end);
-    locations_begin();
     frames_begin(size);
 }
 
@@ -134,7 +149,7 @@ __attribute__((constructor(101))) static void start(void) {
     }
     read_settings();
     stacks_running_thread = __builtin_thread_pointer();
-    records_begin();
+    lines_begin();
     give_streams_buffers();
     claim_threads();
     if (name)
@@ -154,7 +169,7 @@ __attribute__((constructor(101))) static void start(void) {
         put_header();
     doing.plain = !divided_any && !doing.writing_repeats && course_last_record == UINT64_MAX;
     doing.plainest = doing.plain && !doing.looking && !doing.keeping_places && doing.version == 2;
-    locations_follow_views();
+    views_follow();
     doing.tracing = true;
     short_way_find();
     signals_catch();

@@ -1,6 +1,8 @@
-/* Signals that end the program. */
+#include "run/signals.h"
+
 #include "base/caller.h"
-#include "run/detector.h"
+#include "base/changes.h"
+#include "base/doing.h"
 #include "run/ends.h"
 #include "shadow/stacks.h"
 #include "base/tell.h"

@@ -6,8 +6,7 @@
 #ifndef SPBAGS_BLOCKS_H
 #define SPBAGS_BLOCKS_H
 
-#include "shadow/spans.h"
-#include "shadow/units.h"
+#include "shadow/granules.h"
 
 enum { BLOCK_BITS = 6, BLOCK_UNITS = 1 << BLOCK_BITS };
 enum { READ_IT = 1, WROTE_IT = 2, QUICK = 0x80 };

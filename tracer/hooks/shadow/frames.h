@@ -1,5 +1,4 @@
-/* The frames of the functions that are active and of the children that were spawned, and the procedures that they are in
-   the trace. */
+/* The frames of the functions that are active and of the children that were spawned, and which procedures they are. */
 #ifndef SPBAGS_FRAMES_H
 #define SPBAGS_FRAMES_H
 
@@ -64,6 +63,8 @@ extern uintptr_t short_way_bits;
 /* A function's entry and its end go the short way, in inline_checks.s, where its stack memory ends here or above: none
    where no access does, or where records don't only go to the detector. */
 extern uintptr_t short_way_first __asm__("__spbags_short_way_first");
+/* Whether records of the structure may go the short way: they only go to the detector, or into a trace. */
+extern bool short_way_structure;
 
 static inline void follow_top(void) {
     short_way_end = frames_top->kind != CHILD ? frames_top->end & short_way_bits : 0;
@@ -103,48 +104,12 @@ static inline void push_frame_at(enum kind kind, uintptr_t end, uintptr_t positi
     push_frame_there(kind, end, position);
 }
 
-/* Behind all records so far. */
-void frames_push(enum kind kind, uintptr_t end);
-void frames_begin_child(__spbags_function callee, uintptr_t stack_pointer, uintptr_t code);
-void frames_leave_top(uintptr_t code);
-
-/* Leaves the frames that ended at or below this address. */
-static inline void leave_below(uintptr_t address, uintptr_t code) {
-    while (frames_top->end <= address)
-        frames_leave_top(code);
-}
-
-static inline void leave_children(uintptr_t code) {
-    while (frames_top->kind == CHILD)
-        frames_leave_top(code);
-}
-
-/* Leaves the frames that a longjmp left, and the children among them; a strand begins then. */
-__attribute__((noinline, cold)) void frames_leave_left(uintptr_t address, uintptr_t code);
-
-static inline void leave_jumped(uintptr_t address, uintptr_t code) {
-    if (__builtin_expect(frames_top->end <= address, 0))
-        frames_leave_left(address, code);
-}
-
-/* A spawn and a sync are in a function itself: a child that is still open above it was left by a longjmp. */
-static inline void back_to_function(uintptr_t stack_pointer, uintptr_t code) {
-    leave_jumped(stack_pointer, code);
-    leave_children(code);
-}
-
-/* The stack memory below this address has no variable any more. */
-void frames_forget_below(uintptr_t address);
-
 /* Between a spawn and the entry of what it calls, and between its exit and the return, compilers copy arguments and the
    result through memory of the parent's frame, which no program sees. A library function that is the child itself says
    so by its name. */
 static inline bool is_on_the_way(__spbags_function self) {
     return frames_top->kind == CHILD && frames_top->callee != self;
 }
-
-/* The frames whose groups of tasks end with the newest frame. */
-__attribute__((cold)) void parallel_leave_groups(uintptr_t code);
 
 /* ---- Procedures ---- */
 
@@ -157,16 +122,8 @@ static inline uint32_t procedures_opened_by(enum spbags_kind kind) {
     return kind == SPBAGS_RETURN ? -1u : kind <= SPBAGS_CALL;
 }
 
-void procedures_open(enum spbags_kind kind, uintptr_t code);
-void procedures_sync(uintptr_t code);
-void procedures_close(uintptr_t code);
-
 /* Where nothing was a child no access has another one beside it. */
 static inline bool has_had_children(void) { return procedures_most > 1; }
-
-/* Whether something may run beside what the program does now: where all else is done, or comes later, that races with
-   nothing. For code that may have something in any register. */
-__attribute__((no_caller_saved_registers, target("general-regs-only"))) bool procedures_run_beside(void);
 
 /* ---- Parts ---- */
 

@@ -1,13 +1,12 @@
 #include "shadow/marks.h"
 
 #include "shadow/blocks.h"
-#include "records/divided.h"
+#include "base/callbacks.h"
 #include "base/memory.h"
-#include "program/reducers.h"
 #include "base/tell.h"
 
 uint32_t marks_read = FIRST_READ, marks_again;
-uintptr_t marks_of_stack;
+uintptr_t marks_of_stack, marks_numbers;
 
 /* The usual unit has as many bytes as its mark. */
 static void name_marks(size_t region) {
@@ -25,6 +24,8 @@ void marks_begin(uintptr_t first, uintptr_t end) {
     for (size_t region = first_region; region < first_region + count; region++)
         name_marks(region);
     stacks_lowest = end & ~units_mask;
+    const uintptr_t numbers = (uintptr_t)memory_reserve((stacks_size >> units_shift) * sizeof(uint64_t));
+    marks_numbers = numbers - 2 * (uintptr_t)stack_mark(stacks_first);
 }
 
 /* A unit of the stack keeps its number. */
@@ -39,8 +40,7 @@ static void forget_stack(const struct stack *stack) {
 void marks_begin_again(void) {
     for (unsigned number = 0; number < stacks_count; number++)
         forget_stack(&stacks[number]);
-    divided_forget();
-    reducers_forget();
+    callbacks.forget_strands();
     marks_read = FIRST_READ - 2;
     marks_again++;
 }

@@ -3,8 +3,8 @@
 #ifndef SPBAGS_MARKS_H
 #define SPBAGS_MARKS_H
 
+#include "shadow/granules.h"
 #include "shadow/stacks.h"
-#include "shadow/units.h"
 
 enum { UNTOUCHED = 0, TOUCHED = 1, FIRST_READ = 4 };
 /* So many marks are cleared at once. */
@@ -44,7 +44,14 @@ static inline uint32_t *usual_mark(uintptr_t address) {
     return (uint32_t *)(marks_of_stack + address);
 }
 
-/* Makes the marks of the stack, which lies between these. */
+/* A unit of the stack that is marked has its number, which stands where twice the address of the mark says. */
+extern uintptr_t marks_numbers;
+static inline uint64_t *number_of(const uint32_t *mark) {
+    _Static_assert(sizeof(uint64_t) == 2 * sizeof *mark, "a number has the place of another one");
+    return (uint64_t *)(marks_numbers + 2 * (uintptr_t)mark);
+}
+
+/* Makes the marks and the numbers of the stack, which lies between these. */
 void marks_begin(uintptr_t first, uintptr_t end);
 /* All numbers are taken: they begin again, and no mark may have an old one, nor may what else has marks: divided units and
    views of reducers. */

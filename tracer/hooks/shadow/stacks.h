@@ -4,8 +4,6 @@
 #define SPBAGS_STACKS_H
 
 #include "base/common.h"
-#include "records/guards.h"
-#include "shadow/own.h"
 
 enum { MOST_STACKS = 64 };
 /* Between two stacks is so much that belongs to none. */
@@ -14,6 +12,7 @@ static const size_t stack_gap = (size_t)1 << 20;
 struct frame;
 struct part;
 struct body;
+struct turn;
 
 struct stack {
     uintptr_t first, end;
@@ -23,12 +22,9 @@ struct stack {
     struct part *parts;
     struct body *bodies, *newest_body;
     unsigned initialising, hidden_updates;
-    struct guard guards[MOST_GUARDS];
-    unsigned guards_held;
-    /* What its thread has of its own. */
-    struct own_of_thread own;
-    /* Of a member's: its thread waits here for its turn, and then does this. */
+    /* Of a member's: its thread waits here for its turn, and then does this for the member. */
     sem_t turn;
+    const struct turn *does;
     struct member *member;
 };
 extern struct stack stacks[MOST_STACKS];

@@ -1,7 +1,11 @@
-#include "shadow/spans.h"
+#include "shadow/granules.h"
 
 #include "base/memory.h"
 #include "base/tell.h"
+
+unsigned units_shift;
+uintptr_t units_mask;
+struct range units_narrow;
 
 struct lives spans_lives;
 

@@ -1,7 +1,7 @@
 /* Accesses that no code of the program's makes itself, as those of a function of the library. They are noted for who
    called the hook. */
-#ifndef SPBAGS_NOTING_H
-#define SPBAGS_NOTING_H
+#ifndef SPBAGS_ACCESSES_H
+#define SPBAGS_ACCESSES_H
 
 #include "base/caller.h"
 
