@@ -80,8 +80,8 @@ class Function:
         made = [note_of(kind, item, "__wrap_" + name) for kind, items in (("READ", self.reads), ("WRITE", self.writes))
                 for item in items if not item[0].startswith(LOCK) and is_after(item) == after]
         if made and self.lock:
-            made = [f'enter_guard((uintptr_t)state({self.lock}), "the lock of {self.lock}");', *made,
-                    f"leave_guard((uintptr_t)state({self.lock}));"]
+            made = [f'guards_enter((uintptr_t)state({self.lock}), "the lock of {self.lock}");', *made,
+                    f"guards_leave((uintptr_t)state({self.lock}));"]
         return ["    if (doing.tracing) {", *("        " + note for note in made), "    }"] if made else []
 
     def takes_list(self):

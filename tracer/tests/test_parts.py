@@ -8,7 +8,7 @@ import cases
 from cases import CC, TESTS, TRACER, TracerTest
 
 # Limits of a strand, of the number of strands, which come again and again then, and of memory that stays free.
-LIMITS = ("-DMOST_STRANDS=20", "-DMOST_BLOCKS=4", "-DFREE_SPANS=1")
+LIMITS = ("-DMARK_MOST_STRANDS=20", "-DSTRAND_MOST_BLOCKS=4", "-DFREE_SPANS=1")
 UNDEFINED = ("-fsanitize=undefined", "-fsanitize-undefined-trap-on-error")
 HOOKS = os.path.join(TRACER, "hooks")
 BESIDE = [f"{HOOKS}/{name}.c" for name in (

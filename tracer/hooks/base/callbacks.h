@@ -1,7 +1,7 @@
-/* What a folder calls of one that stands on it. run/run.c has this table; no access and no spawn goes by it but where it
-   finds one of these. */
-#ifndef SPBAGS_CALLBACKS_H
-#define SPBAGS_CALLBACKS_H
+/* What a folder calls of one that stands on it. run/run.c has this table; no access and no spawn goes by it but where
+   it finds one of these. */
+#ifndef SPBAGS_BASE_CALLBACKS_H
+#define SPBAGS_BASE_CALLBACKS_H
 
 #include "base/common.h"
 

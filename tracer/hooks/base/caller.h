@@ -1,6 +1,6 @@
 /* Who called a hook. */
-#ifndef SPBAGS_CALLER_H
-#define SPBAGS_CALLER_H
+#ifndef SPBAGS_BASE_CALLER_H
+#define SPBAGS_BASE_CALLER_H
 
 #include "base/common.h"
 
@@ -20,12 +20,12 @@ struct caller {
 /* The linker's names for the program's code, and for that of the hooks. */
 extern char __executable_start[], etext[], __start_spbags_hooks[], __stop_spbags_hooks[];
 
-static inline bool is_between(uintptr_t code, const char *first, const char *end) {
+static inline bool caller_is_between(uintptr_t code, const char *first, const char *end) {
     return code >= (uintptr_t)first && code < (uintptr_t)end;
 }
 
-static inline bool is_program(uintptr_t code) {
-    return is_between(code, __executable_start, etext) && !is_between(code, __start_spbags_hooks, __stop_spbags_hooks);
+static inline bool caller_is_program(uintptr_t code) {
+    return caller_is_between(code, __executable_start, etext) && !caller_is_between(code, __start_spbags_hooks, __stop_spbags_hooks);
 }
 
 #endif

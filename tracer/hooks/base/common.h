@@ -1,13 +1,12 @@
-/* The hooks write a trace, or hand its records to the detector inside. `spbags-cc` compiles a program with a plugin
-   of the compiler, which puts a call beside each access and at each function's entry and exit. It links the program with
-   these files. The program runs on one thread, in the serial order: a spawned child runs at once, as an
-   ordinary call.
+/* The hooks write a trace, or hand its records to the detector inside. `spbags-cc` compiles a program with a plugin of
+   the compiler, which puts a call beside each access and at each function's entry and exit. It links the program with
+   these files. The program runs on one thread, in the serial order: a spawned child runs at once, as an ordinary call.
 
-   Each module is a .c file with a header of what others may call; what is on the way of each access is inline there. What
-   a header declares begins with the module's name, constants with that of one. Only the words in which hooks are written
-   don't: macros, and what stands here and in library/words.h. Each folder stands on those before it:
+   Each module is a .c file with a header of what others may call; what is on the way of each access is inline there.
+   What a header declares begins with the module's name, constants with that of one. Only the words in which hooks are
+   written don't: macros, and what stands here and in library/words.h. Each folder stands on those before it:
 
-     base/          what all may use: settings, the run's state, lines for the user, output
+      base/          what all may use: settings, the run's state, lines for the user, output
      shadow/        what is known of the program's memory, and of the functions that are active
      records/       what goes out, when and where
      program/       the hooks that the program's own code calls
@@ -19,8 +18,8 @@
    Where one calls what stands on it, it does so by base/callbacks.h, or base/openmp.h says so.
 
    Here is what each part may use: the system's headers, and the library's real functions. */
-#ifndef SPBAGS_COMMON_H
-#define SPBAGS_COMMON_H
+#ifndef SPBAGS_BASE_COMMON_H
+#define SPBAGS_BASE_COMMON_H
 #define _GNU_SOURCE
 #include <ctype.h>
 #include <dlfcn.h>

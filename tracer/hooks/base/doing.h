@@ -1,6 +1,6 @@
 /* What the run does. */
-#ifndef SPBAGS_DOING_H
-#define SPBAGS_DOING_H
+#ifndef SPBAGS_BASE_DOING_H
+#define SPBAGS_BASE_DOING_H
 
 #include "base/common.h"
 
@@ -23,13 +23,13 @@ extern struct doing {
 } doing;
 
 #ifdef SPBAGS_INSIDE
-enum { HAS_DETECTOR = true };
+enum { DOING_HAS_DETECTOR = true };
 #else
-enum { HAS_DETECTOR = false };
+enum { DOING_HAS_DETECTOR = false };
 #endif
-static inline bool detects(void) { return HAS_DETECTOR && doing.detecting; }
-static inline bool only_detects(void) { return detects() && doing.plain; }
+static inline bool doing_detects(void) { return DOING_HAS_DETECTOR && doing.detecting; }
+static inline bool doing_only_detects(void) { return doing_detects() && doing.plain; }
 /* What it makes. */
-static inline const char *outcome_name(void) { return detects() ? "report" : "trace"; }
+static inline const char *doing_outcome_name(void) { return doing_detects() ? "report" : "trace"; }
 
 #endif

@@ -1,6 +1,6 @@
 /* Memory of the hooks' own. */
-#ifndef SPBAGS_MEMORY_H
-#define SPBAGS_MEMORY_H
+#ifndef SPBAGS_BASE_MEMORY_H
+#define SPBAGS_BASE_MEMORY_H
 
 #include "base/common.h"
 #include "base/settings.h"

@@ -1,7 +1,7 @@
 /* What the other folders ask of OpenMP. Its own is compiled where a program needs it, and stands in for the runtimes of
    gcc and clang. */
-#ifndef SPBAGS_OPENMP_H
-#define SPBAGS_OPENMP_H
+#ifndef SPBAGS_BASE_OPENMP_H
+#define SPBAGS_BASE_OPENMP_H
 
 #include "base/common.h"
 
@@ -9,7 +9,8 @@
 /* Whether accesses are looked at beside, as those after an ordered region. They come here all. */
 extern bool openmp_watches;
 void openmp_watch_access(bool writes, uintptr_t address, size_t size, uintptr_t code);
-/* An access of memory that may be another thread's: of a stack that doesn't run, or near what a thread has of its own. */
+/* An access of memory that may be another thread's: of a stack that doesn't run, or near what a thread has of its
+   own. */
 __attribute__((cold)) void openmp_note_other(uintptr_t address, uintptr_t code);
 /* Whether a task or a thread may run beside what the program does now; for code that may have something in any
    register. */

@@ -1,13 +1,13 @@
 /* What goes out of the program: the trace or the report. Places have an output of their own. */
-#ifndef SPBAGS_OUTPUT_H
-#define SPBAGS_OUTPUT_H
+#ifndef SPBAGS_BASE_OUTPUT_H
+#define SPBAGS_BASE_OUTPUT_H
 
 #include "base/common.h"
 
 /* No record has more bytes, nor has the header. */
-enum { LONGEST = 32 };
+enum { OUTPUT_LONGEST = 32 };
 /* What goes out at once. A pipe takes many such pieces, so that its reader has some while the program makes others. */
-enum { PIECE = 1 << 16, PIPE = 1 << 20 };
+enum { OUTPUT_PIECE = 1 << 16, OUTPUT_PIPE = 1 << 20 };
 
 struct output {
     const char *name;
@@ -17,14 +17,14 @@ struct output {
     uint64_t written, most;
     /* What is done at that limit. */
     void (*at_limit)(void);
-    char bytes[PIECE];
+    char bytes[OUTPUT_PIECE];
 };
 
 /* What the run makes. */
-extern struct output outcome;
+extern struct output output_of_run;
 
-/* NAME is a file, fd:N an open descriptor, and - the standard output: what the program prints there goes to its standard
-   error instead. VARIABLE is the setting that says so. Gives the descriptor. */
+/* NAME is a file, fd:N an open descriptor, and - the standard output: what the program prints there goes to its
+   standard error instead. VARIABLE is the setting that says so. Gives the descriptor. */
 int output_open(const char *name, const char *variable);
 /* Where NAME is fd:N with a descriptor that isn't the program's, this is that descriptor, out of the way; else -1. */
 int output_named_file(const char *variable, const char *name);
@@ -36,8 +36,8 @@ void output_close(struct output *output);
 void output_make_room(struct output *output);
 
 /* Room for one more record. */
-static inline char *room(struct output *output) {
-    if (__builtin_expect(output->used + LONGEST > output->room, 0))
+static inline char *output_room(struct output *output) {
+    if (__builtin_expect(output->used + OUTPUT_LONGEST > output->room, 0))
         output_make_room(output);
     return output->bytes + output->used;
 }

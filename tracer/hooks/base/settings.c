@@ -22,7 +22,7 @@ const char *settings_text(enum setting setting) {
 void settings_forget(enum setting setting) { unsetenv(settings[setting].name); }
 
 __attribute__((noreturn)) static void refuse(enum setting setting, const char *value) {
-    fail("%s=%s: expected %s", settings[setting].name, value, settings[setting].values);
+    tell_fault("%s=%s: expected %s", settings[setting].name, value, settings[setting].values);
 }
 
 /* Whether the values, with commas and `or` between, have this one. */
@@ -53,7 +53,7 @@ uint64_t settings_number_in(const char *variable, const char *expected, uint64_t
     errno = 0;
     uint64_t number = strtoull(value, &rest, 10);
     if (*value < '1' || *value > '9' || *rest != '\0' || errno != 0)
-        fail("%s=%s: expected %s, at least 1", variable, value, expected);
+        tell_fault("%s=%s: expected %s, at least 1", variable, value, expected);
     return number;
 }
 

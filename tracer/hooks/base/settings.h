@@ -1,7 +1,7 @@
 /* The settings: environment variables, each with what it may be, what it is by default, and one line of help. With
    SPBAGS_HELP=1 a program prints them, and the pages' tables are made of this file by settings.py. */
-#ifndef SPBAGS_SETTINGS_H
-#define SPBAGS_SETTINGS_H
+#ifndef SPBAGS_BASE_SETTINGS_H
+#define SPBAGS_BASE_SETTINGS_H
 
 #include "base/common.h"
 

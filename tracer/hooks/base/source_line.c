@@ -5,7 +5,7 @@
 int __real_execvp(const char *name, char *const words[]);
 
 const char *source_line(uintptr_t code, char *line, size_t size) {
-    if (tells_records()) {
+    if (tell_by_records()) {
         snprintf(line, size, "<code %#zx>", (size_t)code - 1);
         return line;
     }

@@ -1,6 +1,6 @@
 /* Where a call is in the source. */
-#ifndef SPBAGS_SOURCE_LINE_H
-#define SPBAGS_SOURCE_LINE_H
+#ifndef SPBAGS_BASE_SOURCE_LINE_H
+#define SPBAGS_BASE_SOURCE_LINE_H
 
 #include "base/common.h"
 

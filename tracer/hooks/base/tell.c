@@ -9,12 +9,12 @@ char tell_kept[1 << 16];
 size_t tell_kept_length;
 uint64_t tell_incomplete_lines;
 
-/* No stream and no block of the heap: a signal may come while the program's heap is locked, and a line more moves none of
-   its blocks. Where no standard error is read no signal comes of it. */
+/* No stream and no block of the heap: a signal may come while the program's heap is locked, and a line more moves none
+   of its blocks. Where no standard error is read no signal comes of it. */
 void tell_text(const char *record, const char *text) {
     char whole[1100], *left = whole;
     tell_has_told = true;
-    int length = snprintf(whole, sizeof whole - 1, "%s: %s", tells_records() ? record : "spbags", text);
+    int length = snprintf(whole, sizeof whole - 1, "%s: %s", tell_by_records() ? record : "spbags", text);
     if (length > (int)sizeof whole - 2)
         length = (int)sizeof whole - 2;
     whole[length++] = '\n';
@@ -71,7 +71,7 @@ bool tell_is_first(uintptr_t place) {
 }
 
 /* _exit, since the program's own handlers could add to a trace that is broken. */
-void fail_by(const char *record, const char *format, ...) {
+void tell_fault_by(const char *record, const char *format, ...) {
     PUT_TEXT(text, 400, format);
     tell_text(record, text);
     __real__exit(2);
@@ -95,7 +95,7 @@ void tell_unseen(const char *name, const char *shown, const char *library, uint6
     snprintf(text, sizeof text, "not seen: %.700s (%.200s), called %llu time%s", shown, library,
              (unsigned long long)calls, calls == 1 ? "" : "s");
     snprintf(record, sizeof record, "unseen %llu %.200s", (unsigned long long)calls, library);
-    tell_text(record, tells_records() ? name : text);
+    tell_text(record, tell_by_records() ? name : text);
     keep(text);
     tell_incomplete_lines++;
 }

@@ -1,15 +1,15 @@
-/* Lines about the run. A user reads them on standard error, as `spbags: TEXT`. For spbags-run each is a record,
-   `NAME [WORD ..]: TEXT`, in the file that SPBAGS_SAYS names: it goes by the name and the words, which said.py lists, and
-   the text is for people alone. */
-#ifndef SPBAGS_TELL_H
-#define SPBAGS_TELL_H
+/* Lines about the run. A user reads them on standard error, as `spbags: TEXT`. For spbags-run each is a record, `NAME
+   [WORD ..]: TEXT`, in the file that SPBAGS_SAYS names: it goes by the name and the words, which said.py lists, and the
+   text is for people alone. */
+#ifndef SPBAGS_BASE_TELL_H
+#define SPBAGS_BASE_TELL_H
 
 #include "base/common.h"
 
 /* Where the lines go; spbags-run has another file than standard error. And whether there was one. */
 extern int tell_file;
 extern bool tell_has_told;
-static inline bool tells_records(void) { return tell_file != STDERR_FILENO; }
+static inline bool tell_by_records(void) { return tell_file != STDERR_FILENO; }
 
 /* A record's name and the number behind it. */
 struct tell_name {
@@ -26,8 +26,8 @@ __attribute__((format(__printf__, 2, 3))) void tell_record(const char *record, c
 bool tell_is_first(uintptr_t place);
 
 /* The run ends here, without an answer. */
-__attribute__((noreturn, format(__printf__, 2, 3))) void fail_by(const char *record, const char *format, ...);
-#define fail(...) fail_by("fault", __VA_ARGS__)
+__attribute__((noreturn, format(__printf__, 2, 3))) void tell_fault_by(const char *record, const char *format, ...);
+#define tell_fault(...) tell_fault_by("fault", __VA_ARGS__)
 
 /* ---- Lines of the report ---- */
 

@@ -9,14 +9,14 @@ struct list {
 };
 enum { GENERAL_BYTES = 6 * 8, VECTOR_BYTES = GENERAL_BYTES + 8 * 16 };
 /* Where the next argument is expected. A small struct may have parts in both kinds of registers. */
-enum kind { IN_GENERAL, IN_VECTOR, IN_MEMORY, IN_ANY };
+enum frame_kind { IN_GENERAL, IN_VECTOR, IN_MEMORY, IN_ANY };
 
 /* Registers of a kind, while there are some left. */
 static bool take_registers(const uint32_t *used, uint32_t bytes, uintptr_t stack_pointer, uintptr_t code) {
-    note_access(false, (uintptr_t)used, sizeof *used, NULL, stack_pointer, code);
+    accesses_note(false, (uintptr_t)used, sizeof *used, NULL, stack_pointer, code);
     if (*used >= bytes)
         return false;
-    note_access(true, (uintptr_t)used, sizeof *used, NULL, stack_pointer, code);
+    accesses_note(true, (uintptr_t)used, sizeof *used, NULL, stack_pointer, code);
     return true;
 }
 

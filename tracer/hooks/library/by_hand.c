@@ -50,9 +50,9 @@ BY_HAND(ENTRY *, hsearch, ENTRY item, ACTION action) {
 static void note_converted(bool writes, char *at, size_t before, char **now, size_t *left, struct caller by) {
     if (!now)
         return;
-    note_access_by(writes, (uintptr_t)at, before - *left, by);
-    note_access_by(true, (uintptr_t)now, sizeof *now, by);
-    note_access_by(true, (uintptr_t)left, sizeof *left, by);
+    accesses_note_by(writes, (uintptr_t)at, before - *left, by);
+    accesses_note_by(true, (uintptr_t)now, sizeof *now, by);
+    accesses_note_by(true, (uintptr_t)left, sizeof *left, by);
 }
 
 BY_HAND(size_t, iconv, iconv_t with, char **from, size_t *n, char **to, size_t *m) {
@@ -147,7 +147,7 @@ CONTROLS(fcntl64)
 static void note_buffer(const char *name, void *buffer, size_t size, struct caller by) {
     if (!doing.tracing || !buffer)
         return;
-    note_access_by(true, (uintptr_t)buffer, size, by);
+    accesses_note_by(true, (uintptr_t)buffer, size, by);
     tell_incomplete("%s gives a stream a buffer of the program's, and what the stream does there later isn't seen",
                     name);
 }
@@ -218,18 +218,18 @@ BY_HAND(int, fclose, FILE *stream) {
 
 BY_HAND(void, flockfile, FILE *stream) {
     __real_flockfile(stream);
-    enter_guard((uintptr_t)stream, streams_lock_of(stream));
+    guards_enter((uintptr_t)stream, streams_lock_of(stream));
 }
 
 BY_HAND(int, ftrylockfile, FILE *stream) {
     int answer = __real_ftrylockfile(stream);
     if (answer == 0)
-        enter_guard((uintptr_t)stream, streams_lock_of(stream));
+        guards_enter((uintptr_t)stream, streams_lock_of(stream));
     return answer;
 }
 
 BY_HAND(void, funlockfile, FILE *stream) {
-    leave_guard((uintptr_t)stream);
+    guards_leave((uintptr_t)stream);
     __real_funlockfile(stream);
 }
 

@@ -8,7 +8,7 @@ static struct caller inside_of;
 #define ENTER(NAME) inside_of = BY(__wrap_##NAME)
 
 static void note_field(bool writes, const void *at, size_t size) {
-    note_access_by(writes, (uintptr_t)at, size, inside_of);
+    accesses_note_by(writes, (uintptr_t)at, size, inside_of);
 }
 
 #define GET(FIELD) (note_field(false, &(FIELD), sizeof(FIELD)), (FIELD))

@@ -7,7 +7,7 @@
    follow the block are of no matter: its size, its alignment, and that nothing is thrown. */
 #define DELETE(NAME) \
     void NAME(void *block) { \
-        if (is_program(CODE)) \
+        if (caller_is_program(CODE)) \
             heap_end_block(block, (__spbags_function)NAME, STACK_POINTER, CODE); \
         free(block); \
     }
@@ -32,7 +32,7 @@ DELETE(_ZdaPvSt11align_val_tRKSt9nothrow_t)
         __real_##NAME(guard); \
         CHANGE; \
         if (doing.tracing) \
-            short_way_find(); \
+            frames_find_short_way(); \
     }
 GUARD(__cxa_guard_release, frames_initialising--)
 GUARD(__cxa_guard_abort, frames_initialising--)
@@ -42,7 +42,7 @@ int __wrap___cxa_guard_acquire(void *guard) {
     int first = __real___cxa_guard_acquire(guard);
     frames_initialising += first != 0;
     if (doing.tracing)
-        short_way_find();
+        frames_find_short_way();
     return first;
 }
 

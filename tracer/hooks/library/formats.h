@@ -1,6 +1,6 @@
 /* What a format of printf or scanf has its arguments for. */
-#ifndef SPBAGS_FORMATS_H
-#define SPBAGS_FORMATS_H
+#ifndef SPBAGS_LIBRARY_FORMATS_H
+#define SPBAGS_LIBRARY_FORMATS_H
 
 #include "base/common.h"
 

@@ -18,7 +18,7 @@ static int library_state_of_rand, library_state_of_drand48, library_state_of_mbl
 static void note_every(bool writes, uintptr_t at, size_t size, size_t count, size_t stride, __spbags_function self,
                        uintptr_t stack_pointer, uintptr_t code) {
     for (; count > 0; count--, at += stride)
-        note_access(writes, at, size, self, stack_pointer, code);
+        accesses_note(writes, at, size, self, stack_pointer, code);
 }
 
 /* So many bytes, which these pieces hold one after the other. */
@@ -26,7 +26,7 @@ static void note_pieces(bool writes, const struct iovec *piece, size_t count, ss
                         uintptr_t stack_pointer, uintptr_t code) {
     for (; count > 0 && bytes > 0; piece++, count--) {
         size_t size = least(piece->iov_len, (size_t)bytes);
-        note_access(writes, (uintptr_t)piece->iov_base, size, self, stack_pointer, code);
+        accesses_note(writes, (uintptr_t)piece->iov_base, size, self, stack_pointer, code);
         bytes -= (ssize_t)size;
     }
 }
@@ -35,8 +35,8 @@ static void note_pieces(bool writes, const struct iovec *piece, size_t count, ss
 static void note_list(va_list list, __spbags_function self, uintptr_t stack_pointer, uintptr_t code) {
     if (!doing.tracing)
         return;
-    note_access(false, (uintptr_t)list, sizeof(va_list), self, stack_pointer, code);
-    note_access(true, (uintptr_t)list, sizeof(va_list), self, stack_pointer, code);
+    accesses_note(false, (uintptr_t)list, sizeof(va_list), self, stack_pointer, code);
+    accesses_note(true, (uintptr_t)list, sizeof(va_list), self, stack_pointer, code);
 }
 
 enum { KIND_READ = false, KIND_WRITE = true };
@@ -48,9 +48,9 @@ enum { KIND_READ = false, KIND_WRITE = true };
 void library_note_argument(bool writes, uintptr_t at, size_t size, const void *with) {
     const struct caller *by = with;
     if (writes)
-        note_access_by(true, at, size, *by);
+        accesses_note_by(true, at, size, *by);
     else
-        note_read(at, size, by->self, by->stack_pointer, by->code);
+        accesses_note_read(at, size, by->self, by->stack_pointer, by->code);
 }
 
 /* ---- The functions ---- */
@@ -66,7 +66,7 @@ void library_note_argument(bool writes, uintptr_t at, size_t size, const void *w
 
 void library_refuse_thread(void) {
     if (doing.tracing)
-        fail("the program starts a thread, and only a serial run can be traced");
+        tell_fault("the program starts a thread, and only a serial run can be traced");
 }
 
 int __wrap_pthread_create(pthread_t *thread, const pthread_attr_t *attributes, void *(*start)(void *), void *with) {

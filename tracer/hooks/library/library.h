@@ -1,6 +1,6 @@
 /* What functions of the library access, as library.table says it or as it is written by hand. */
-#ifndef SPBAGS_LIBRARY_H
-#define SPBAGS_LIBRARY_H
+#ifndef SPBAGS_LIBRARY_LIBRARY_H
+#define SPBAGS_LIBRARY_LIBRARY_H
 
 #include "library/formats.h"
 #include "library/words.h"

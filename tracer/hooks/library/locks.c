@@ -19,12 +19,12 @@
 #define UNLOCKS(NAME, TYPE) \
     __attribute__((weak)) int __real_##NAME(TYPE *lock); \
     int __wrap_##NAME(TYPE *lock) { \
-        leave_guard((uintptr_t)lock); \
+        guards_leave((uintptr_t)lock); \
         return __real_##NAME(lock); \
     }
 static int enter_lock(int answer, const volatile void *lock) {
     if (answer == 0)
-        enter_guard((uintptr_t)lock, "the lock ");
+        guards_enter((uintptr_t)lock, "the lock ");
     return answer;
 }
 

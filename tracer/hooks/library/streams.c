@@ -9,9 +9,9 @@ bool streams_judged, streams_shared = true;
 
 static void note_order(uintptr_t at, const char *lock, struct caller by) {
     guards_enter_first(at, lock);
-    note_access_by(true, at, sizeof(int), by);
-    note_access_by(false, at + sizeof(int), sizeof(int), by);
-    leave_guard(at);
+    accesses_note_by(true, at, sizeof(int), by);
+    accesses_note_by(false, at + sizeof(int), sizeof(int), by);
+    guards_leave(at);
 }
 
 const char *streams_lock_of(FILE *stream) {
@@ -61,5 +61,5 @@ void streams_use_ostream(const struct ostream *stream, struct caller by) {
     else if (streams_shared && (at == standard_cerr || at == standard_clog))
         streams_use(stderr, by);
     else
-        note_access_by(true, (uintptr_t)at, sizeof(int), by);
+        accesses_note_by(true, (uintptr_t)at, sizeof(int), by);
 }

@@ -1,6 +1,6 @@
 /* The order in which a stream or a descriptor is used. */
-#ifndef SPBAGS_STREAMS_H
-#define SPBAGS_STREAMS_H
+#ifndef SPBAGS_LIBRARY_STREAMS_H
+#define SPBAGS_LIBRARY_STREAMS_H
 
 #include "base/caller.h"
 

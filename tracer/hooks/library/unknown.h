@@ -1,6 +1,6 @@
 /* Functions that nothing is known of. */
-#ifndef SPBAGS_UNKNOWN_H
-#define SPBAGS_UNKNOWN_H
+#ifndef SPBAGS_LIBRARY_UNKNOWN_H
+#define SPBAGS_LIBRARY_UNKNOWN_H
 
 #include "base/common.h"
 

@@ -6,7 +6,7 @@
 #include "openmp/notes.h"
 
 void barriers_join_team(uintptr_t code) {
-    if (scopes_holder()->kind == MEMBER) {
+    if (scopes_holder()->kind == SCOPE_MEMBER) {
         members_wait(code);
         return;
     }
@@ -20,13 +20,13 @@ void barriers_join_team(uintptr_t code) {
 /* Where a loop's variable is private first and shared at its end, gcc puts a barrier into the loop's first share. */
 void barriers_wait(uintptr_t code) {
     const struct scope *newest = scopes.newest;
-    bool is_share = newest->kind == SHARE, in_share = is_share && !scopes_thread()->loop->ordered;
+    bool is_share = newest->kind == SCOPE_SHARE, in_share = is_share && !scopes_thread()->loop->ordered;
     if (in_share)
         children_close(code);
     if (in_share || !is_share)
         barriers_join_team(code);
     if (in_share)
-        children_open(SHARE, code);
+        children_open(SCOPE_SHARE, code);
 }
 
 bool barriers_leaves_to_others(const struct scope *thread) {
@@ -42,7 +42,7 @@ bool barriers_leaves_to_others(const struct scope *thread) {
 
 bool barriers_does_single(void) {
     struct scope *thread = scopes_thread();
-    if (thread->kind != MEMBER)
+    if (thread->kind != SCOPE_MEMBER)
         return !barriers_leaves_to_others(thread);
     bool is_left = thread->singles_met++ == thread->team->singles;
     bool does = is_left && !barriers_leaves_to_others(thread);
@@ -68,7 +68,7 @@ void *GOMP_single_copy_start(void) {
 }
 
 void GOMP_single_copy_end(void *data) {
-    if (scopes_thread()->kind != MEMBER)
+    if (scopes_thread()->kind != SCOPE_MEMBER)
         return;
     scopes_team()->team->copied = data;
     members_wait(CODE);

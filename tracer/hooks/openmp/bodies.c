@@ -6,7 +6,7 @@
 struct bodies bodies;
 
 struct body *bodies_reserve(void) {
-    return memory_reserve(MOST_SCOPES * sizeof(struct body));
+    return memory_reserve(SCOPE_MOST * sizeof(struct body));
 }
 
 void bodies_start(void) { bodies.first = bodies.newest = bodies_reserve(); }

@@ -7,15 +7,15 @@
 #include "base/common.h"
 
 enum body_kind {
-    PARALLEL_BODY,
-    SINGLE_BODY,
-    MASTER_BODY,
-    SIMD_BODY,
-    SECTION_BODY,
-    LAST_BODY,
-    SCOPE_BODY,
-    SCOPE_NOWAIT_BODY,
-    SCOPED_BODY
+    BODY_PARALLEL,
+    BODY_SINGLE,
+    BODY_MASTER,
+    BODY_SIMD,
+    BODY_SECTION,
+    BODY_LAST,
+    BODY_SCOPE,
+    BODY_SCOPE_NOWAIT,
+    BODY_SCOPED
 };
 
 /* Whether it has begun, and is a child. */

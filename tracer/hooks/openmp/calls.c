@@ -22,7 +22,7 @@ static void note_question(const struct scope *team) {
 static void ask_in_team(struct scope *thread) {
     thread->team->asks = true;
     note_question(scopes_team());
-    if (scopes.newest->kind == SHARE && thread->loop && !thread->loop->ordered)
+    if (scopes.newest->kind == SCOPE_SHARE && thread->loop && !thread->loop->ordered)
         thread->loop->in_blocks = true;
 }
 
@@ -33,7 +33,7 @@ static const struct scope *thread_of_level(int of) {
     if (of < 0 || of > now)
         return NULL;
     for (; now > of || !scopes_is_thread(at); at--)
-        now -= at->kind == TEAM;
+        now -= at->kind == SCOPE_TEAM;
     return at;
 }
 
@@ -65,11 +65,11 @@ int omp_get_thread_num(void) { return scopes_thread()->thread; }
 int __spbags_thread_num(void) {
     struct scope *thread = scopes_thread();
     enum scope_kind task = scopes_holder()->kind;
-    if (thread->kind == MEMBER && task != TASK)
+    if (thread->kind == SCOPE_MEMBER && task != SCOPE_TASK)
         ask_in_team(thread);
-    else if (teams.active_levels > 0 && task != TEAM)
+    else if (teams.active_levels > 0 && task != SCOPE_TEAM)
         notes_keep(&notes.task_asks, CODE);
-    if (thread->kind == TEAM)
+    if (thread->kind == SCOPE_TEAM)
         note_question(thread);
     return thread->thread;
 }

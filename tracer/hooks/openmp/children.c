@@ -19,7 +19,7 @@ static void write_sync(uintptr_t code) {
 }
 
 static void note_wait(uintptr_t code) {
-    if (doing.tracing && frames_top->node != NONE)
+    if (doing.tracing && frames_top->node != FRAME_NONE)
         look_at_wait(frames_top, code, false);
 }
 
@@ -35,10 +35,10 @@ static void write_return(uintptr_t code) {
 
 struct scope *children_open(enum scope_kind kind, uintptr_t code) {
     struct scope *parent = scopes.newest;
-    bool waits = parent->kind != TASK || !waits_is_second;
+    bool waits = parent->kind != SCOPE_TASK || !waits_is_second;
     if (waits && scopes_unsynced(parent) == 0 && has_older()) {
         if (doing.version == 1)
-            fail("tasks of one group may run at once with older ones, which only version 2 of the trace can show: "
+            tell_fault("tasks of one group may run at once with older ones, which only version 2 of the trace can show: "
                  "leave out SPBAGS_VERSION=1");
         write_open(SPBAGS_CALL, code);
         parent->owns = true;
@@ -58,7 +58,7 @@ static void leave_others(uint64_t count, uintptr_t code) {
 /* A taskwait waits for tasks alone, and not for the shares of a loop without a barrier. */
 void children_close(uintptr_t code) {
     const struct scope *child = scopes_pop();
-    bool is_task = child->kind == TASK, is_other = !is_task && !child->follows_loop;
+    bool is_task = child->kind == SCOPE_TASK, is_other = !is_task && !child->follows_loop;
     write_return(code);
     scopes.newest->children += is_task;
     scopes.newest->following += child->follows_loop;

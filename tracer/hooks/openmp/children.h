@@ -1,6 +1,6 @@
 /* What scopes make and wait for. A scope that wasn't spawned is no procedure of the trace as long as it needs none. A
-   `call` is opened for it where it makes its first child while something older is unsynced in the same procedure: then a
-   wait for its children isn't a wait for those. */
+   `call` is opened for it where it makes its first child while something older is unsynced in the same procedure: then
+   a wait for its children isn't a wait for those. */
 #ifndef SPBAGS_OPENMP_CHILDREN_H
 #define SPBAGS_OPENMP_CHILDREN_H
 

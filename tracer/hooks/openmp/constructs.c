@@ -11,8 +11,8 @@
 /* The compiler may give the call of the runtime another line than the body has. clang makes two functions of a body. */
 static void name_part(uintptr_t code) {
     struct frame *part = frames_top - 1;
-    part -= part->kind < CALLED;
-    if (part->kind < CALLED)
+    part -= part->kind < FRAME_CALLED;
+    if (part->kind < FRAME_CALLED)
         return;
     notes_name_region(part->code, code);
     part->code = code;
@@ -22,7 +22,7 @@ static void begin_parallel_body(uintptr_t code) {
     struct scope *thread = scopes.newest;
     if (doing.tracing)
         name_part(code);
-    *(thread->kind == MEMBER ? &thread->team->code : &thread->code) = code;
+    *(thread->kind == SCOPE_MEMBER ? &thread->team->code : &thread->code) = code;
     thread->in_body = true;
     silence_follow_body();
 }
@@ -35,7 +35,7 @@ static void end_parallel_body(void) {
 /* The thread of this number does, or will do, a master region. */
 static void note_master(int number) {
     const struct scope *thread = scopes_thread();
-    if (thread->kind == MEMBER && number >= 0 && number < (int)thread->size)
+    if (thread->kind == SCOPE_MEMBER && number >= 0 && number < (int)thread->size)
         thread->team->masters |= (uint64_t)1 << number;
 }
 
@@ -44,17 +44,17 @@ static void begin_child_body(struct body *body, uintptr_t stack_pointer, uintptr
     struct scope *thread = scopes_holder();
     bool is_of_team = scopes_is_thread(thread) && !thread->alone;
     silence_from(NULL);
-    if (body->kind == MASTER_BODY && is_of_team) {
+    if (body->kind == BODY_MASTER && is_of_team) {
         thread->master = code;
         note_master(thread->thread);
     }
-    body->is_child = is_of_team && body->kind != MASTER_BODY && (body->kind == SINGLE_BODY || !thread->loop->in_blocks);
+    body->is_child = is_of_team && body->kind != BODY_MASTER && (body->kind == BODY_SINGLE || !thread->loop->in_blocks);
     if (!body->is_child)
         return;
-    children_open(SHARE, code);
-    parts_open(LOOP_PART, stack_pointer, code);
-    uint64_t number = body->kind == SECTION_BODY ? ++thread->shares : 0;
-    note_part((struct part){.of = number > 0 ? "sections" : "single", .first = number, .last = number});
+    children_open(SCOPE_SHARE, code);
+    parts_open(FRAME_LOOP_PART, stack_pointer, code);
+    uint64_t number = body->kind == BODY_SECTION ? ++thread->shares : 0;
+    frames_note_part((struct frame_part){.of = number > 0 ? "sections" : "single", .first = number, .last = number});
 }
 
 static void end_child_body(const struct body *body, uintptr_t code) {
@@ -67,9 +67,9 @@ static void end_child_body(const struct body *body, uintptr_t code) {
 }
 
 static void end_of_scope(enum body_kind kind, uintptr_t stack_pointer, uintptr_t code) {
-    if (kind == SCOPED_BODY)
+    if (kind == BODY_SCOPED)
         shares_begin_combining(stack_pointer, code);
-    else if (kind == SCOPE_BODY)
+    else if (kind == BODY_SCOPE)
         shares_end_loop(code);
     else
         shares_end_following(code);
@@ -78,8 +78,8 @@ static void end_of_scope(enum body_kind kind, uintptr_t stack_pointer, uintptr_t
 #pragma GCC visibility push(hidden)
 
 void __spbags_body(int kind) {
-    if (++bodies.newest == bodies.first + MOST_SCOPES)
-        fail("parallel regions nest deeper than %d", MOST_SCOPES);
+    if (++bodies.newest == bodies.first + SCOPE_MOST)
+        tell_fault("parallel regions nest deeper than %d", SCOPE_MOST);
     *bodies.newest = (struct body){.kind = (enum body_kind)kind};
 }
 
@@ -100,17 +100,17 @@ int __spbags_goes_on(void) {
     struct body *body = bodies.newest;
     bool begins = !body->begun;
     body->begun = true;
-    if (body->kind == PARALLEL_BODY && begins)
+    if (body->kind == BODY_PARALLEL && begins)
         begin_parallel_body(CODE);
-    else if (body->kind == PARALLEL_BODY)
+    else if (body->kind == BODY_PARALLEL)
         end_parallel_body();
-    else if (body->kind == SIMD_BODY)
+    else if (body->kind == BODY_SIMD)
         notes_keep(&notes.simd_loop, CODE);
-    else if (body->kind >= SCOPE_BODY && !begins)
+    else if (body->kind >= BODY_SCOPE && !begins)
         end_of_scope(body->kind, STACK_POINTER, CODE);
-    else if (begins && body->kind < LAST_BODY)
+    else if (begins && body->kind < BODY_LAST)
         begin_child_body(body, STACK_POINTER, CODE);
-    else if (body->kind < LAST_BODY)
+    else if (body->kind < BODY_LAST)
         end_child_body(body, CODE);
     bodies.newest -= !begins;
     return begins;

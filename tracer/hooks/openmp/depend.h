@@ -10,12 +10,12 @@
 void depend_read_settings(void);
 
 /* What a task names. */
-struct named {
+struct depend_named {
     uintptr_t address;
     bool writes;
 };
 
 /* What begins here depends on earlier tasks by these; and if it IS_NAMED later ones may depend on it. */
-void depend_follow(struct named *names, size_t count, bool is_named, uintptr_t code);
+void depend_follow(struct depend_named *names, size_t count, bool is_named, uintptr_t code);
 
 #endif

@@ -14,7 +14,7 @@ struct nested_lock {
 static const char lock_name[] = "the lock ";
 
 __attribute__((noreturn)) static void wait_for_ever(void) {
-    fail("the program waits for a lock that is never unset: a task runs to its end where it is made, so what holds "
+    tell_fault("the program waits for a lock that is never unset: a task runs to its end where it is made, so what holds "
          "the lock can't go on");
 }
 
@@ -28,7 +28,7 @@ int omp_test_lock(struct lock *lock) {
     if (lock->count > 0)
         return 0;
     lock->count = 1;
-    enter_guard((uintptr_t)lock, lock_name);
+    guards_enter((uintptr_t)lock, lock_name);
     return 1;
 }
 
@@ -39,7 +39,7 @@ void omp_set_lock(struct lock *lock) {
 
 void omp_unset_lock(struct lock *lock) {
     lock->count = 0;
-    leave_guard((uintptr_t)lock);
+    guards_leave((uintptr_t)lock);
 }
 
 void omp_init_nest_lock(struct nested_lock *lock) { lock->count = 0; }
@@ -50,10 +50,10 @@ int omp_test_nest_lock(struct nested_lock *lock) {
     if (lock->count > 0 && lock->owner != scopes_task()->number)
         return 0;
     if (lock->count == UINT16_MAX)
-        fail("one lock is set more than %d times", UINT16_MAX);
+        tell_fault("one lock is set more than %d times", UINT16_MAX);
     lock->owner = scopes_task()->number;
     lock->count++;
-    enter_guard((uintptr_t)lock, lock_name);
+    guards_enter((uintptr_t)lock, lock_name);
     return lock->count;
 }
 
@@ -64,7 +64,7 @@ void omp_set_nest_lock(struct nested_lock *lock) {
 
 void omp_unset_nest_lock(struct nested_lock *lock) {
     lock->count--;
-    leave_guard((uintptr_t)lock);
+    guards_leave((uintptr_t)lock);
 }
 
 #pragma GCC visibility pop

@@ -11,7 +11,7 @@ void loops_start(void) { loops.first = loops.next = memory_reserve(MOST_LOOPS * 
 
 static struct loop *new_loop(struct loop loop) {
     if (loops.next == loops.first + MOST_LOOPS)
-        fail("there are more than %d loops without a barrier between them", MOST_LOOPS);
+        tell_fault("there are more than %d loops without a barrier between them", MOST_LOOPS);
     *loops.next = loop;
     return loops.next++;
 }
@@ -44,7 +44,7 @@ static struct loop *loop_of_team(struct scope *thread, struct loop loop) {
 void loops_begin(struct loop loop) {
     struct scope *thread = scopes_thread();
     thread->shares = thread->taken = 0;
-    if (thread->kind == MEMBER) {
+    if (thread->kind == SCOPE_MEMBER) {
         thread->loop = loop_of_team(thread, loop);
         return;
     }

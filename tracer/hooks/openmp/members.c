@@ -10,21 +10,21 @@
 #include "program/procedures.h"
 
 static void begin_part(struct member *member, uintptr_t code) {
-    *children_open(MEMBER, code) = member->scope;
-    member->depth = procedures_count;
+    *children_open(SCOPE_MEMBER, code) = member->scope;
+    member->depth = frames_procedures;
     scopes_follow();
 }
 
 /* A `call` that a function has open ends here, and what the function spawns later needs another one. */
 static void close_calls(const struct member *member, uintptr_t code) {
-    if (procedures_count == member->depth)
+    if (frames_procedures == member->depth)
         return;
-    while (procedures_count > member->depth)
+    while (frames_procedures > member->depth)
         procedures_close(code);
     for (struct frame *frame = member->base; frame <= frames_top; frame++)
-        if (is_of_function(frame)) {
+        if (frames_is_of_function(frame)) {
             frame->called = false;
-            frame->children = NONE;
+            frame->children = FRAME_NONE;
         }
 }
 
@@ -91,7 +91,7 @@ void members_wait(uintptr_t code) {
         turns_switch_to(next->stack);
     begin_part(member, code);
     for (size_t group = 1; group <= groups; group++)
-        scopes_push(GROUP, false)->reductions = kept[group].reductions;
+        scopes_push(SCOPE_GROUP, false)->reductions = kept[group].reductions;
 }
 
 static void run_member(struct member *member, uintptr_t stack_end) {
@@ -100,9 +100,9 @@ static void run_member(struct member *member, uintptr_t stack_end) {
     if (member->scope.thread > 0)
         member->scope.stack_end = stack_end;
     begin_part(member, team->code);
-    frames_push(TASK_PART, stack_end);
+    procedures_push(FRAME_TASK_PART, stack_end);
     frames_top->code = team->code;
-    note_part((struct part){(uintptr_t)region->data, look_region_name, (uint64_t)member->scope.thread,
+    frames_note_part((struct frame_part){(uintptr_t)region->data, look_region_name, (uint64_t)member->scope.thread,
                             (uint64_t)member->scope.thread, region->whole != NULL});
     member->base = frames_top;
     silence_follow_body();
@@ -130,7 +130,7 @@ static void make_member(struct team *team, unsigned number, const struct scope *
     struct member *member = &team->members[number];
     *member = (struct member){.stack = number == 0 ? stacks_running : turns_next_stack(&turn_of_member, member, node)};
     uint64_t scope = scopes_new_number();
-    member->scope = (struct scope){.kind = MEMBER,
+    member->scope = (struct scope){.kind = SCOPE_MEMBER,
                                    .owns = true,
                                    .size = team->size,
                                    .team = team,
@@ -144,9 +144,9 @@ static void make_member(struct team *team, unsigned number, const struct scope *
 
 static bool is_in_share(void) {
     const struct scope *at = scopes.newest;
-    while (at->kind != SHARE && !scopes_is_thread(at))
+    while (at->kind != SCOPE_SHARE && !scopes_is_thread(at))
         at--;
-    return at->kind == SHARE;
+    return at->kind == SCOPE_SHARE;
 }
 
 /* Whether a member of the team has a variable of the region there. */
@@ -161,14 +161,14 @@ void openmp_note_other(uintptr_t address, uintptr_t code) {
     for (unsigned at = 0; at < turns.stacks_used && (in_share || thread->in_body); at++)
         if (&stacks[at] != stacks_running && own_is_of(&turns.own[at], address))
             notes_keep(&notes.others_own, code);
-    for (unsigned number = 0; number < thread->size && in_share && thread->kind == MEMBER; number++)
+    for (unsigned number = 0; number < thread->size && in_share && thread->kind == SCOPE_MEMBER; number++)
         if ((int)number != thread->thread && is_in_region(&thread->team->members[number], address))
             notes_keep(&notes.others_local, code);
 }
 
 void members_do_region(struct team *team) {
-    note_part((struct part){.of = look_region_name, .is_hidden = !team->region.whole});
-    uint32_t node = doing.looking ? look_node_of(top_at()) : NONE;
+    frames_note_part((struct frame_part){.of = look_region_name, .is_hidden = !team->region.whole});
+    uint32_t node = doing.looking ? look_node_of(look_top()) : FRAME_NONE;
     unsigned used = turns.stacks_used;
     const struct scope *around = scopes.newest;
     for (unsigned number = 0; number < team->size; number++)

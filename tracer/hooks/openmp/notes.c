@@ -32,7 +32,7 @@ static const char *place_of(uintptr_t code) {
 /* A member of a team ends the run. */
 static void tell_unfinished(void) {
     const struct scope *thread = scopes_thread();
-    if (thread->kind == MEMBER)
+    if (thread->kind == SCOPE_MEMBER)
         tell_incomplete("%s: the run ends inside this parallel region: what its other threads do up to their next "
                         "barrier isn't modelled",
                         place_of(thread->team->code));

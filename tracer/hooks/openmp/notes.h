@@ -1,5 +1,5 @@
-/* What the report of a run with OpenMP has to say beside the races. Where it says something once, this has the code of the
-   first place, or 0. */
+/* What the report of a run with OpenMP has to say beside the races. Where it says something once, this has the code of
+   the first place, or 0. */
 #ifndef SPBAGS_OPENMP_NOTES_H
 #define SPBAGS_OPENMP_NOTES_H
 

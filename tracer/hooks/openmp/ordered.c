@@ -15,12 +15,12 @@ void ordered_begin_loop(struct loop loop, uintptr_t code) {
     if (thread->alone || thread->loop->begun > 0)
         return;
     for (uint64_t share = loops_steps(shares_left(thread), thread->loop->most); share > 0; share--)
-        children_open(SHARE, code);
+        children_open(SCOPE_SHARE, code);
 }
 
 void ordered_begin_region(uintptr_t code) {
     const struct scope *share = scopes.newest;
-    if (share->kind != SHARE)
+    if (share->kind != SCOPE_SHARE)
         return;
     uint64_t tasks = scopes_unsynced(share) - share->shares_left;
     if (tasks > 0)
@@ -30,7 +30,7 @@ void ordered_begin_region(uintptr_t code) {
 
 void ordered_end_region(void) {
     struct scope *scope = scopes.newest;
-    if (scope->kind == SHARE && scopes_thread()->loop->ordered)
+    if (scope->kind == SCOPE_SHARE && scopes_thread()->loop->ordered)
         scope->is_watched = true;
     scopes_follow();
 }
@@ -38,7 +38,7 @@ void ordered_end_region(void) {
 void openmp_watch_access(bool writes, uintptr_t address, size_t size, uintptr_t code) {
     (void)writes, (void)size;
     bool is_on_own_stack = address >= stacks_running_first && address < scopes_thread()->stack_end;
-    if (!is_on_own_stack && notes.after_ordered == 0 && !own_has(address & ~units_mask))
+    if (!is_on_own_stack && notes.after_ordered == 0 && !own_has(address & ~granules_mask))
         notes.after_ordered = code;
 }
 

@@ -1,5 +1,5 @@
-/* Ordered loops. An ordered region comes after those of all earlier iterations. So each share is nested in the next one,
-   which waits for it where its ordered region begins. */
+/* Ordered loops. An ordered region comes after those of all earlier iterations. So each share is nested in the next
+   one, which waits for it where its ordered region begins. */
 #ifndef SPBAGS_OPENMP_ORDERED_H
 #define SPBAGS_OPENMP_ORDERED_H
 

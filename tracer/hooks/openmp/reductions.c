@@ -16,7 +16,7 @@ static uintptr_t own_block(size_t alignment, size_t size) {
     uintptr_t block = (own_copies.end + alignment - 1) & ~(alignment - 1);
     own_copies.end = (block + size + 15) & ~(uintptr_t)15;
     if (own_copies.end - own_copies.first > most_copies)
-        fail("out of memory for the copies of reductions");
+        tell_fault("out of memory for the copies of reductions");
     if (doing.tracing)
         own_add((struct own_memory){block, own_copies.end});
     return block;
@@ -24,9 +24,9 @@ static uintptr_t own_block(size_t alignment, size_t size) {
 
 /* Memory for the copies of all threads, or those of the first thread that came here. */
 static void reserve_copies(uintptr_t *array, const uintptr_t *first) {
-    size_t size = array[SIZE] * scopes_team()->size;
-    array[MEMORY] = first ? first[MEMORY] : own_block(array[MEMORY], size);
-    array[END] = array[MEMORY] + size;
+    size_t size = array[REDUCTION_SIZE] * scopes_team()->size;
+    array[REDUCTION_MEMORY] = first ? first[REDUCTION_MEMORY] : own_block(array[REDUCTION_MEMORY], size);
+    array[REDUCTION_END] = array[REDUCTION_MEMORY] + size;
 }
 
 static uintptr_t *reductions_around(const struct scope *at) {
@@ -38,21 +38,21 @@ static uintptr_t *reductions_around(const struct scope *at) {
 void reductions_register(struct scope *scope, uintptr_t *data, const uintptr_t *first) {
     uintptr_t *array = data;
     reserve_copies(array, first);
-    while (array[NEXT_ARRAY] != 0) {
-        array = (uintptr_t *)array[NEXT_ARRAY];
-        first = first ? (const uintptr_t *)first[NEXT_ARRAY] : NULL;
+    while (array[REDUCTION_NEXT_ARRAY] != 0) {
+        array = (uintptr_t *)array[REDUCTION_NEXT_ARRAY];
+        first = first ? (const uintptr_t *)first[REDUCTION_NEXT_ARRAY] : NULL;
         reserve_copies(array, first);
     }
-    array[NEXT_ARRAY] = (uintptr_t)reductions_around(scope);
+    array[REDUCTION_NEXT_ARRAY] = (uintptr_t)reductions_around(scope);
     scope->reductions = data;
 }
 
 /* Finds the variable of an array that has this address, or whose copy of any thread it is; or null. */
 static uintptr_t *variable_of(uintptr_t *array, uintptr_t address) {
-    bool is_copy = address >= array[MEMORY] && address < array[END];
-    uintptr_t offset = is_copy ? (address - array[MEMORY]) % array[SIZE] : 0;
-    for (uintptr_t number = 0; number < array[VARIABLES]; number++) {
-        uintptr_t *variable = array + FIRST + number * WORDS_EACH;
+    bool is_copy = address >= array[REDUCTION_MEMORY] && address < array[REDUCTION_END];
+    uintptr_t offset = is_copy ? (address - array[REDUCTION_MEMORY]) % array[REDUCTION_SIZE] : 0;
+    for (uintptr_t number = 0; number < array[REDUCTION_VARIABLES]; number++) {
+        uintptr_t *variable = array + REDUCTION_FIRST + number * REDUCTION_WORDS_EACH;
         if (is_copy ? variable[1] == offset : variable[0] == address)
             return variable;
     }
@@ -63,19 +63,19 @@ uintptr_t *reductions_find(uintptr_t address, uintptr_t **array) {
     uintptr_t *variable = NULL;
     *array = reductions_around(scopes.newest);
     while (*array && !(variable = variable_of(*array, address)))
-        *array = (uintptr_t *)(*array)[NEXT_ARRAY];
+        *array = (uintptr_t *)(*array)[REDUCTION_NEXT_ARRAY];
     if (!variable)
-        fail("a task has in_reduction of a variable that no group around it reduces");
+        tell_fault("a task has in_reduction of a variable that no group around it reduces");
     return variable;
 }
 
 uintptr_t reductions_copy_of(const uintptr_t *array, const uintptr_t *variable) {
-    return array[MEMORY] + (uintptr_t)scopes_thread()->thread * array[SIZE] + variable[1];
+    return array[REDUCTION_MEMORY] + (uintptr_t)scopes_thread()->thread * array[REDUCTION_SIZE] + variable[1];
 }
 
 /* The group around a loop, or NULL. */
 static struct scope *begin_workshare(const uintptr_t *reductions) {
-    return reductions ? scopes_push(GROUP, false) : NULL;
+    return reductions ? scopes_push(SCOPE_GROUP, false) : NULL;
 }
 
 /* The loop has begun. The copies and the memory of the first thread that came are for all. */

@@ -7,10 +7,10 @@
 
 #include "openmp/scopes.h"
 
-enum reduction_word { VARIABLES = 0, SIZE = 1, MEMORY = 2, NEXT_ARRAY = 4, END = 6, FIRST = 7, WORDS_EACH = 3 };
+enum reduction_word { REDUCTION_VARIABLES = 0, REDUCTION_SIZE = 1, REDUCTION_MEMORY = 2, REDUCTION_NEXT_ARRAY = 4, REDUCTION_END = 6, REDUCTION_FIRST = 7, REDUCTION_WORDS_EACH = 3 };
 
 void reductions_start(void);
-/* This scope has these. FIRST are the first thread's, or NULL. */
+/* This scope has these. REDUCTION_FIRST are the first thread's, or NULL. */
 void reductions_register(struct scope *scope, uintptr_t *data, const uintptr_t *first);
 /* The variable that a task here reduces at this address, and its array. */
 uintptr_t *reductions_find(uintptr_t address, uintptr_t **array);

@@ -12,8 +12,8 @@
 
 static uint64_t threads_of_team(void) {
     uint64_t threads = settings_number(SETTING_TEAM);
-    if (threads > MOST_STACKS)
-        fail("SPBAGS_TEAM=%llu: a team has at most %d threads", (unsigned long long)threads, MOST_STACKS);
+    if (threads > STACK_MOST)
+        tell_fault("SPBAGS_TEAM=%llu: a team has at most %d threads", (unsigned long long)threads, STACK_MOST);
     return threads;
 }
 
@@ -23,10 +23,10 @@ size_t openmp_room_for_members(size_t *own_size) {
     if (others == 0)
         return 0;
     if (settings_is(SETTING_NESTED, "1"))
-        others = MOST_STACKS - 1;
+        others = STACK_MOST - 1;
     *own_size = least(*own_size, whole / 2);
-    turns.stack_size = least(*own_size, ((whole - *own_size) / others - stack_gap) & ~(size_t)0xffff);
-    return others * (turns.stack_size + stack_gap);
+    turns.stack_size = least(*own_size, ((whole - *own_size) / others - stacks_gap) & ~(size_t)0xffff);
+    return others * (turns.stack_size + stacks_gap);
 }
 
 static bool is_true(const char *variable) {
@@ -42,8 +42,8 @@ static void set_threads_of_levels(void) {
         long threads = strtol(at, &rest, 10);
         rest += strspn(rest, " ");
         if (threads < 1 || threads > INT_MAX || (*rest != '\0' && (*rest != ',' || rest[1] == '\0')))
-            fail("%s=%s: expected numbers of threads, at least 1, with commas between", name, value);
-        if (teams.levels_named < MOST_LEVELS)
+            tell_fault("%s=%s: expected numbers of threads, at least 1, with commas between", name, value);
+        if (teams.levels_named < TEAMS_MOST_LEVELS)
             teams.threads_of_level[teams.levels_named++] = (int)threads;
         at = rest + (*rest == ',');
     }

@@ -8,7 +8,7 @@
 #include "base/common.h"
 #include "shadow/frames.h"
 
-enum scope_kind { TEAM, MEMBER, TASK, GROUP, SHARE };
+enum scope_kind { SCOPE_TEAM, SCOPE_MEMBER, SCOPE_TASK, SCOPE_GROUP, SCOPE_SHARE };
 
 struct loop;
 struct team;
@@ -45,8 +45,8 @@ struct scope {
     struct team *team;
     uintptr_t code;
     /* Of a thread, which is a member or all of a team: its number, and which member it is. The stack memory below is
-       its own. Its loop, how many shares and iterations of that it has begun, and the loops and single regions that it has
-       met in this phase. Where it has begun a master region in this phase, or 0. */
+       its own. Its loop, how many shares and iterations of that it has begun, and the loops and single regions that it
+       has met in this phase. Where it has begun a master region in this phase, or 0. */
     int thread;
     struct member *member;
     uintptr_t stack_end;
@@ -60,7 +60,7 @@ struct scope {
     uint64_t number;
 };
 
-enum { MOST_SCOPES = MOST_DEPTH + 3 };
+enum { SCOPE_MOST = FRAME_MOST_DEPTH + 3 };
 
 /* Those that stand open, from the program's beginning, which is a team too, to the newest; and how many have begun. */
 extern struct scopes {
@@ -78,7 +78,7 @@ void scopes_follow(void);
 static inline uint64_t scopes_new_number(void) { return ++scopes.begun; }
 static inline void scopes_end_period(struct scope *task) { task->period = scopes_new_number(); }
 
-static inline bool scopes_is_thread(const struct scope *scope) { return scope->kind == TEAM || scope->kind == MEMBER; }
+static inline bool scopes_is_thread(const struct scope *scope) { return scope->kind == SCOPE_TEAM || scope->kind == SCOPE_MEMBER; }
 
 /* The thread that does what is done here. */
 static inline struct scope *scopes_thread(void) {
@@ -91,20 +91,20 @@ static inline struct scope *scopes_thread(void) {
 /* The newest scope but for the groups in it. */
 static inline struct scope *scopes_holder(void) {
     struct scope *at = scopes.newest;
-    while (at->kind == GROUP)
+    while (at->kind == SCOPE_GROUP)
         at--;
     return at;
 }
 
 static inline struct scope *scopes_team(void) {
     struct scope *thread = scopes_thread();
-    return thread->kind == MEMBER ? thread - 1 : thread;
+    return thread->kind == SCOPE_MEMBER ? thread - 1 : thread;
 }
 
 /* A share of a loop is a part of its thread's task. */
 static inline struct scope *scopes_task(void) {
     struct scope *at = scopes.newest;
-    while (at->kind != TASK && !scopes_is_thread(at))
+    while (at->kind != SCOPE_TASK && !scopes_is_thread(at))
         at--;
     return at;
 }

@@ -15,15 +15,15 @@ static uint64_t left_of_block(const struct scope *thread, uint64_t left) {
     return number + 1 == thread->size ? left : least(block - least(block, thread->taken), left);
 }
 
-/* Two members do a loop, so that what one reaches of another is seen. Of a region that is nothing but a loop that is only
-   what threads have of their own, and ordered iterations follow one another. */
+/* Two members do a loop, so that what one reaches of another is seen. Of a region that is nothing but a loop that is
+   only what threads have of their own, and ordered iterations follow one another. */
 static bool is_shared_out(const struct scope *thread) {
-    return thread->kind == MEMBER && !thread->loop->ordered && (!thread->team->region.whole || own_has_variables());
+    return thread->kind == SCOPE_MEMBER && !thread->loop->ordered && (!thread->team->region.whole || own_has_variables());
 }
 
 /* Whether a later member of the team may do a part too: one that does no master region. */
 static bool has_later(const struct scope *thread) {
-    const uint64_t all = UINT64_MAX >> (MOST_STACKS - thread->size), now = (uint64_t)2 << thread->thread;
+    const uint64_t all = UINT64_MAX >> (STACK_MOST - thread->size), now = (uint64_t)2 << thread->thread;
     return (all & -now & ~thread->team->masters) != 0;
 }
 
@@ -57,7 +57,7 @@ static void end_share(const struct scope *thread, uintptr_t code) {
 
 /* The iterations of the share that has begun now go from this one to the newest. */
 static void note_share(const struct loop *loop, uint64_t first) {
-    note_part((struct part){.of = loop->is_sections ? "sections" : "loop",
+    frames_note_part((struct frame_part){.of = loop->is_sections ? "sections" : "loop",
                             .first = first,
                             .last = loop->start + (loop->begun - 1) * loop->step});
 }
@@ -71,8 +71,8 @@ static void begin_share(const struct scope *thread, uint64_t first, uintptr_t st
     if (thread->alone || loop->in_blocks)
         return;
     if (!loop->ordered)
-        children_open(SHARE, loop->code);
-    parts_open(LOOP_PART, stack_pointer, loop->code);
+        children_open(SCOPE_SHARE, loop->code);
+    parts_open(FRAME_LOOP_PART, stack_pointer, loop->code);
     note_share(loop, first);
 }
 
@@ -89,9 +89,9 @@ static bool has_following(const struct scope *thread) {
 
 static void begin_following(bool is_child, uintptr_t stack_pointer, uintptr_t code) {
     if (is_child) {
-        children_open(SHARE, code)->follows_loop = true;
-        parts_open(LOOP_PART, stack_pointer, code);
-        note_part((struct part){.of = "reduction"});
+        children_open(SCOPE_SHARE, code)->follows_loop = true;
+        parts_open(FRAME_LOOP_PART, stack_pointer, code);
+        frames_note_part((struct frame_part){.of = "reduction"});
     }
     silence_from(frames_top);
 }
@@ -131,7 +131,7 @@ bool shares_take(uint64_t *first, uint64_t *end, uintptr_t stack_pointer, uintpt
     struct loop *loop = thread->loop;
     uint64_t size = next_size(thread);
     bool goes_on = loop->in_blocks && size > 0;
-    if (thread->shares > 0 && !goes_on && scopes.newest->kind == SHARE)
+    if (thread->shares > 0 && !goes_on && scopes.newest->kind == SCOPE_SHARE)
         end_share(thread, code);
     if (size == 0)
         return false;

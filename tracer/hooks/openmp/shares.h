@@ -1,7 +1,7 @@
 /* Shares of loops. The wrapper gives every loop the schedule `dynamic`, so that gcc asks for each iteration here: then
    the share before ends, and a new one begins. The first member of a team that comes does all but the last two, which
-   another one does; if the region is nothing but the loop, mostly it does all. Variables of a thread are private to each share, so all stack memory below
-   its region's loses its numbers between two. */
+   another one does; if the region is nothing but the loop, mostly it does all. Variables of a thread are private to
+   each share, so all stack memory below its region's loses its numbers between two. */
 #ifndef SPBAGS_OPENMP_SHARES_H
 #define SPBAGS_OPENMP_SHARES_H
 
@@ -19,8 +19,8 @@ bool shares_next(uint64_t *first, uint64_t *end, uintptr_t stack_pointer, uintpt
 /* The number of the next section, or 0. */
 unsigned shares_next_section(uintptr_t stack_pointer, uintptr_t code);
 
-/* What the compiler puts between the last share and the loop's end, as a reduction's sums and last values, is no code of
-   the program's: it is done beside that, as a share is. But a last value behind a block is one of that thread's. */
+/* What the compiler puts between the last share and the loop's end, as a reduction's sums and last values, is no code
+   of the program's: it is done beside that, as a share is. But a last value behind a block is one of that thread's. */
 void shares_begin_following(const struct scope *thread, uintptr_t stack_pointer, uintptr_t code);
 void shares_end_following(uintptr_t code);
 

@@ -4,13 +4,13 @@
 
 void silence_from(struct frame *frame) {
     const struct scope *thread = scopes_thread();
-    if (thread->kind == MEMBER && !team_is_last(thread))
+    if (thread->kind == SCOPE_MEMBER && !team_is_last(thread))
         frames_silent = frame;
 }
 
 void silence_follow_body(void) {
     const struct scope *thread = scopes_thread();
-    bool is_silent = thread->kind == MEMBER && !thread->in_body;
+    bool is_silent = thread->kind == SCOPE_MEMBER && !thread->in_body;
     silence_from(is_silent ? thread->member->base + thread->team->region.functions : NULL);
 }
 
@@ -19,5 +19,5 @@ void silence_combining(int change) {
         return;
     frames_left_out_update = true;
     frames_initialising += (unsigned)change;
-    short_way_find();
+    frames_find_short_way();
 }

@@ -11,7 +11,8 @@ struct frame;
 void silence_from(struct frame *frame);
 /* Outside of a region's body its function is silent. */
 void silence_follow_body(void);
-/* What combines a reduction's copies begins, by 1, or ends, by -1. Where it is silent not even functions are recorded. */
+/* What combines a reduction's copies begins, by 1, or ends, by -1. Where it is silent not even functions are
+   recorded. */
 void silence_combining(int change);
 
 #endif

@@ -14,9 +14,9 @@ struct taskloop {
 static uint64_t tasks_of(uint64_t count, unsigned flags, uint64_t wanted) {
     if (wanted == 0)
         return loops_steps(count, loops.iterations);
-    if ((flags & GRAIN_SIZE) == 0)
+    if ((flags & TASK_GRAIN_SIZE) == 0)
         return least(count, wanted);
-    if ((flags & STRICT_SIZE) != 0)
+    if ((flags & TASK_STRICT_SIZE) != 0)
         return loops_steps(count, wanted);
     return count < wanted ? 1 : count / wanted;
 }
@@ -27,7 +27,7 @@ static void run_taskloop(const struct task *task, struct taskloop loop, uintptr_
         uint64_t size = loop.count / loop.tasks + (number < loop.count % loop.tasks);
         if (loop.strict_size > 0)
             size = least(loop.strict_size, loop.count - begun);
-        struct bounds bounds = {.first = loop.start + begun * loop.step, .end = loop.end};
+        struct task_bounds bounds = {.first = loop.start + begun * loop.step, .end = loop.end};
         begun += size;
         bounds.last = loop.start + (begun - 1) * loop.step;
         if (begun < loop.count)
@@ -38,20 +38,20 @@ static void run_taskloop(const struct task *task, struct taskloop loop, uintptr_
 
 void taskloops_do(const struct task *task, struct loop loop, unsigned flags, uint64_t wanted, uintptr_t stack_pointer,
                   uintptr_t code) {
-    bool has_group = (flags & NO_GROUP) == 0;
+    bool has_group = (flags & TASK_NO_GROUP) == 0;
     /* The two bounds come first, and then the reductions. */
-    uintptr_t *reductions = (flags & REDUCTION) != 0 && has_group ? ((uintptr_t **)task->data)[2] : NULL;
+    uintptr_t *reductions = (flags & TASK_REDUCTION) != 0 && has_group ? ((uintptr_t **)task->data)[2] : NULL;
     if (loop.count == 0) {
         if (reductions)
-            reductions[MEMORY] = 0;
+            reductions[REDUCTION_MEMORY] = 0;
         return;
     }
     struct taskloop split = {loop.start, loop.step, loop.end, loop.count, tasks_of(loop.count, flags, wanted), 0};
-    if ((flags & GRAIN_SIZE) != 0 && (flags & STRICT_SIZE) != 0)
+    if ((flags & TASK_GRAIN_SIZE) != 0 && (flags & TASK_STRICT_SIZE) != 0)
         split.strict_size = wanted;
     notes.has_long_shares |= wanted == 0 && split.tasks < split.count;
     if (has_group)
-        scopes_push(GROUP, false);
+        scopes_push(SCOPE_GROUP, false);
     if (reductions)
         reductions_register(scopes.newest, reductions, NULL);
     run_taskloop(task, split, stack_pointer, code);
@@ -66,11 +66,11 @@ void taskloops_do(const struct task *task, struct loop loop, unsigned flags, uin
               unsigned flags, unsigned long wanted, int priority, __VA_ARGS__) { \
         (void)priority; \
         struct task task = { \
-            run, data, copy, (size_t)size, (size_t)alignment, (flags & DEFERRED) != 0, (flags & FINAL) != 0}; \
+            run, data, copy, (size_t)size, (size_t)alignment, (flags & TASK_DEFERRED) != 0, (flags & TASK_FINAL) != 0}; \
         taskloops_do(&task, LOOP, flags, wanted, STACK_POINTER, CODE); \
     }
 TASKLOOP(GOMP_taskloop, loops_signed(start, end, step, 0), long start, long end, long step)
-TASKLOOP(GOMP_taskloop_ull, loops_unsigned((flags & COUNTS_UP) != 0, start, end, step, 0), unsigned long long start,
+TASKLOOP(GOMP_taskloop_ull, loops_unsigned((flags & TASK_COUNTS_UP) != 0, start, end, step, 0), unsigned long long start,
          unsigned long long end, unsigned long long step)
 
 #pragma GCC visibility pop

@@ -19,31 +19,31 @@ static void copy_data(const struct task *task, void *to, uintptr_t stack_pointer
         memcpy(to, task->data, task->size);
         return;
     }
-    parts_open(CALLED, stack_pointer, code);
+    parts_open(FRAME_CALLED, stack_pointer, code);
     task->copy(to, task->data);
     parts_close(code);
 }
 
 /* What its caller has below the stack pointer is dead before and after, and a task that may run later holds none of the
    caller's locks. */
-void tasks_run(const struct task *task, const struct bounds *bounds, uintptr_t stack_pointer, uintptr_t code) {
+void tasks_run(const struct task *task, const struct task_bounds *bounds, uintptr_t stack_pointer, uintptr_t code) {
     parts_forget_below(stack_pointer);
     bool is_final = scopes_task()->final;
     char room[task->size + task->alignment];
     char *data = room + task->alignment - (uintptr_t)room % task->alignment;
     copy_data(task, data, stack_pointer, code);
     if (bounds)
-        memcpy(data, bounds, offsetof(struct bounds, last));
+        memcpy(data, bounds, offsetof(struct task_bounds, last));
     bool deferred = task->deferred && !is_final;
     bool is_child = deferred && !waits_is_part(scopes_holder()->period);
     unsigned held = deferred ? guards_held : 0;
     struct guard kept[held + 1];
     memcpy(kept, guards, held * sizeof *kept);
     guards_held -= held;
-    struct scope *scope = is_child ? children_open(TASK, code) : scopes_push(TASK, false);
+    struct scope *scope = is_child ? children_open(SCOPE_TASK, code) : scopes_push(SCOPE_TASK, false);
     scope->final = is_final || task->final;
-    parts_open(is_child ? TASK_PART : CALLED, stack_pointer, code);
-    note_part((struct part){(uintptr_t)data, bounds ? "taskloop" : "task", bounds ? bounds->first : 0,
+    parts_open(is_child ? FRAME_TASK_PART : FRAME_CALLED, stack_pointer, code);
+    frames_note_part((struct frame_part){(uintptr_t)data, bounds ? "taskloop" : "task", bounds ? bounds->first : 0,
                             bounds ? bounds->last : 0, false});
     task->run(data);
     parts_close(code);
@@ -65,7 +65,7 @@ bool tasks_wait(uintptr_t code) {
         children += at->children;
         others += at->others;
         others_code = at->others > 0 ? at->others_code : others_code;
-    } while (at->kind == GROUP);
+    } while (at->kind == SCOPE_GROUP);
     waits_note(at->period);
     scopes_end_period(at);
     if (children == 0)
@@ -88,7 +88,7 @@ void GOMP_taskwait(void) { tasks_wait(CODE); }
 
 void GOMP_taskyield(void) {}
 
-void GOMP_taskgroup_start(void) { scopes_push(GROUP, false); }
+void GOMP_taskgroup_start(void) { scopes_push(SCOPE_GROUP, false); }
 
 void GOMP_taskgroup_end(void) {
     tasks_note_shares_left(CODE);

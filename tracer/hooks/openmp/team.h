@@ -34,8 +34,8 @@ struct team {
     unsigned size;
     /* How many threads the program wants it to have, or 0. */
     uint64_t wanted;
-    /* The loops that have begun in this phase are those from here on; how many single regions have; and, by their bits, of
-       which members it is known that they do a master region. */
+    /* The loops that have begun in this phase are those from here on; how many single regions have; and, by their bits,
+       of which members it is known that they do a master region. */
     struct loop *first_loop;
     uint32_t singles;
     uint64_t masters;

@@ -10,8 +10,8 @@
 
 struct teams teams = {.most_active_levels = 1};
 
-/* What only threads with other numbers do isn't run. Where neither the program nor the user says how many there are, there
-   may be more. */
+/* What only threads with other numbers do isn't run. Where neither the program nor the user says how many there are,
+   there may be more. */
 void teams_note_asking(uint64_t size, uint64_t wanted, uintptr_t code) {
     bool is_as_wanted = wanted > 0 ? wanted <= size : teams.is_chosen;
     if (notes.small_team_asks || is_as_wanted)
@@ -24,7 +24,7 @@ void teams_note_asking(uint64_t size, uint64_t wanted, uintptr_t code) {
 
 /* How many threads there may be, where the program wants so many, or as many as there are. */
 static unsigned size_of_team(uint64_t wanted, uintptr_t code) {
-    uint64_t most = doing.tracing ? least(teams.size, MOST_STACKS - turns.stacks_used + 1) : 1;
+    uint64_t most = doing.tracing ? least(teams.size, STACK_MOST - turns.stacks_used + 1) : 1;
     if (wanted > most && notes.small_team == 0) {
         notes.small_team = code;
         notes.small_team_has = most;
@@ -52,7 +52,7 @@ void teams_begin(unsigned threads, void *data, uintptr_t stack_pointer, uintptr_
     uint64_t wanted = threads > 0 ? threads : (uint64_t)scopes_task()->threads_wanted;
     bool alone = is_alone(wanted, code);
     parts_forget_below(stack_pointer);
-    struct scope *team = scopes_push(TEAM, false);
+    struct scope *team = scopes_push(SCOPE_TEAM, false);
     int inner = teams_threads_by_variable(scopes_level(false));
     team->threads_wanted = inner > 0 ? inner : team->threads_wanted;
     team->alone = alone;
@@ -62,8 +62,8 @@ void teams_begin(unsigned threads, void *data, uintptr_t stack_pointer, uintptr_
     team->stack_end = stack_pointer;
     team->loop = loops_of_thread();
     teams.active_levels += !alone;
-    parts_open(CALLED, stack_pointer, code);
-    note_part((struct part){.data = (uintptr_t)data, .of = look_region_name});
+    parts_open(FRAME_CALLED, stack_pointer, code);
+    frames_note_part((struct frame_part){.data = (uintptr_t)data, .of = look_region_name});
 }
 
 void teams_end(uintptr_t stack_pointer, uintptr_t code) {

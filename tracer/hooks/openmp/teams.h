@@ -4,7 +4,7 @@
 
 #include "openmp/team.h"
 
-enum { MOST_LEVELS = 64 };
+enum { TEAMS_MOST_LEVELS = 64 };
 
 extern struct teams {
     /* How many members a team has, unless the program wants fewer; and whether SPBAGS_TEAM says so. */
@@ -14,7 +14,7 @@ extern struct teams {
     bool nests;
     /* How many OMP_NUM_THREADS says that a team wants where the program itself doesn't say, by the number of teams
        around. */
-    int threads_of_level[MOST_LEVELS], levels_named;
+    int threads_of_level[TEAMS_MOST_LEVELS], levels_named;
     int active_levels, most_active_levels;
 } teams;
 

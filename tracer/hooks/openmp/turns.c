@@ -18,9 +18,9 @@ static sigset_t members_mask;
 
 /* The guards that are held on each stack. */
 static struct {
-    struct guard list[MOST_GUARDS];
+    struct guard list[GUARD_MOST];
     unsigned count;
-} kept[MOST_STACKS];
+} kept[STACK_MOST];
 
 static struct own_of_thread *own_of(const struct stack *stack) { return &turns.own[stack - stacks]; }
 
@@ -69,12 +69,12 @@ static void enter_stack(struct stack *stack) {
     memcpy(guards, kept[stack - stacks].list, guards_held * sizeof *guards);
     if (doing.tracing)
         enter_own(stack);
-    short_way_find();
+    frames_find_short_way();
 }
 
 static void give_turn(struct stack *next) {
     if (doing.looking)
-        look_node_of(top_at());
+        look_node_of(look_top());
     leave_stack();
     enter_stack(next);
     sem_post(&next->turn);
@@ -133,16 +133,16 @@ static void start_thread(struct stack *stack) {
     pthread_attr_destroy(&attributes);
     sigprocmask(SIG_SETMASK, &members_mask, NULL);
     if (error != 0)
-        fail("a thread of a team can't be started: %s", strerror(error));
+        tell_fault("a thread of a team can't be started: %s", strerror(error));
 }
 
 /* The next stack below all others. */
 static void add_stack(void) {
     struct stack *stack = &stacks[stacks_count];
-    uintptr_t end = stacks[stacks_count - 1].first - stack_gap, first = end - turns.stack_size;
+    uintptr_t end = stacks[stacks_count - 1].first - stacks_gap, first = end - turns.stack_size;
     int flags = MAP_PRIVATE | MAP_ANONYMOUS | MAP_NORESERVE | MAP_STACK | MAP_FIXED_NOREPLACE;
     if (mmap((void *)first, turns.stack_size, PROT_READ | PROT_WRITE, flags, -1, 0) != (void *)first)
-        fail("there is no room for the stacks of a team below the program's own: SPBAGS_TEAM=1 needs none");
+        tell_fault("there is no room for the stacks of a team below the program's own: SPBAGS_TEAM=1 needs none");
     size_t most_frames = turns.stack_size / 16 * 2;
     *stack = (struct stack){.first = first, .end = end, .lowest = end};
     stack->frames = memory_reserve(most_frames * sizeof *frames_all);
@@ -158,7 +158,7 @@ struct stack *turns_next_stack(const struct turn *turn, struct member *member, u
         add_stack();
     struct stack *stack = &stacks[turns.stacks_used++];
     stack->top = stack->frames;
-    *stack->top = (struct frame){.kind = ROOT, .end = UINTPTR_MAX, .node = node};
+    *stack->top = (struct frame){.kind = FRAME_ROOT, .end = UINTPTR_MAX, .node = node};
     stack->grouped = stack->silent_frame = NULL;
     stack->newest_body = stack->bodies;
     kept[stack - stacks].count = stack->initialising = stack->hidden_updates = 0;

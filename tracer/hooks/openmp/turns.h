@@ -11,7 +11,7 @@ extern struct turns {
     size_t stack_size;
     unsigned stacks_used;
     /* What the thread of each stack has of its own. */
-    struct own_of_thread own[MOST_STACKS];
+    struct own_of_thread own[STACK_MOST];
 } turns;
 
 /* What a member does, whose stack memory ends here; and the stack whose turn comes then. */

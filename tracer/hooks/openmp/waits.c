@@ -1,5 +1,5 @@
-/* SPBAGS_WAITED names a file. The first run puts there how many scopes have begun, and then a bit for the number of each
-   period that a taskwait ended; the second one goes by them. */
+/* SPBAGS_WAITED names a file. The first run puts there how many scopes have begun, and then a bit for the number of
+   each period that a taskwait ended; the second one goes by them. */
 #include "openmp/waits.h"
 
 #include "base/memory.h"

@@ -1,6 +1,6 @@
 /* A taskwait doesn't wait for what the tasks that it waits for leave behind, and in a trace that ends with those. Where
-   this makes a difference spbags-run has the program run once more. Then each task that a taskwait waits for is a part of
-   its parent, and no taskwait is a sync: what the tasks leave stays unsynced. Both traces have all order that OpenMP
+   this makes a difference spbags-run has the program run once more. Then each task that a taskwait waits for is a part
+   of its parent, and no taskwait is a sync: what the tasks leave stays unsynced. Both traces have all order that OpenMP
    makes. Beyond it the first has what a task leaves before what stands behind the taskwait, and the other one only the
    task itself before what its parent does up to there; so two accesses without an order have none in one of both. */
 #ifndef SPBAGS_OPENMP_WAITS_H

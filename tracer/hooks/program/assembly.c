@@ -8,10 +8,10 @@ void __spbags_asm(const volatile void *at, unsigned long size, int writes, int l
     if (!doing.tracing)
         return;
     if (locked)
-        enter_guard(ATOMIC, "atomic");
+        guards_enter(GUARD_ATOMIC, "atomic");
     NOTE(writes, at, size);
     if (locked)
-        leave_guard(ATOMIC);
+        guards_leave(GUARD_ATOMIC);
 }
 
 /* One outside of functions, or that is a whole function. */

@@ -5,8 +5,8 @@
 /* A scope of the function that calls this; it ends with the function at the latest. */
 const char *__spbags_enter(const char *place) {
     if (doing.tracing) {
-        back_to_function(STACK_POINTER, CODE);
-        frames_push(SCOPE, frames_top->kind == SCOPE ? frames_top->end : frames_top->end - 1);
+        procedures_back_to_function(STACK_POINTER, CODE);
+        procedures_push(FRAME_SCOPE, frames_top->kind == FRAME_SCOPE ? frames_top->end : frames_top->end - 1);
     }
     return place;
 }
@@ -14,13 +14,13 @@ const char *__spbags_enter(const char *place) {
 void __spbags_leave(const char *const *place) {
     if (!doing.tracing)
         return;
-    leave_jumped(STACK_POINTER, CODE);
-    if (frames_top->kind == CHILD)
+    procedures_leave_jumped(STACK_POINTER, CODE);
+    if (frames_top->kind == FRAME_CHILD)
         tell_incomplete("%s: an exception leaves a child here, and what comes until it is waited for isn't run",
                         *place);
-    leave_children(CODE);
-    if (frames_top->kind == SCOPE)
-        frames_leave_top(CODE);
+    procedures_leave_children(CODE);
+    if (frames_top->kind == FRAME_SCOPE)
+        procedures_leave_top(CODE);
 }
 
 /* Of the iteration that begins. */
@@ -32,15 +32,15 @@ void __spbags_iteration(long value, long shown) {
         return;
     uintptr_t code = CODE;
     /* No library function is the child itself. */
-    frames_begin_child((__spbags_function)__spbags_counter, STACK_POINTER, code);
+    procedures_begin_child((__spbags_function)__spbags_counter, STACK_POINTER, code);
     frames_top->code = code;
-    note_part((struct part){.of = "cilk_for", .first = (uint64_t)shown, .last = (uint64_t)shown});
+    frames_note_part((struct frame_part){.of = "cilk_for", .first = (uint64_t)shown, .last = (uint64_t)shown});
 }
 
 long __spbags_counter(void) { return counter; }
 
-/* gcc makes a function of an iteration's body, and calls this in its place: the data are the addresses of variables. The
-   copy is the iteration's own, as the next one's data lie where these did. */
+/* gcc makes a function of an iteration's body, and calls this in its place: the data are the addresses of variables.
+   The copy is the iteration's own, as the next one's data lie where these did. */
 void __spbags_task(void (*body)(void *), const void *data, void (*copy)(void *, void *), long size, long alignment) {
     (void)copy, (void)alignment;
     max_align_t copied[(size_t)size / sizeof(max_align_t) + 1];

@@ -22,7 +22,7 @@ struct head {
     uint64_t born;
 };
 enum { NOT_IN_STRAND = 0, FREED = 1, DYING = 2 };
-_Static_assert((int)DYING < (int)FIRST_READ, "a strand has the number of none");
+_Static_assert((int)DYING < (int)MARK_FIRST_READ, "a strand has the number of none");
 
 static struct head *head_of(const void *block) { return (struct head *)block - 1; }
 
@@ -75,11 +75,11 @@ static void *map_chunk(uintptr_t wish, size_t size) {
 
 /* At addresses of our own where the system has them free, so that runs are alike and locations have few digits. */
 static bool map_spans(size_t count) {
-    uintptr_t wish = span_first(spans_mapped);
-    size_t size = (count * span_size + CHUNK - 1) & ~(size_t)(CHUNK - 1);
-    if (has_no_spans || spans_mapped + size / span_size > SPANS)
+    uintptr_t wish = granules_span_first(spans_mapped);
+    size_t size = (count * granules_span_size + CHUNK - 1) & ~(size_t)(CHUNK - 1);
+    if (has_no_spans || spans_mapped + size / granules_span_size > GRANULE_SPANS)
         return false;
-    if (!spans && !(spans_begin() && (spans = memory_reserve_or_none(SPANS * sizeof *spans))))
+    if (!spans && !(granules_begin_lifetimes() && (spans = memory_reserve_or_none(GRANULE_SPANS * sizeof *spans))))
         return false;
     void *chunk = map_chunk(wish, size);
     if (chunk == MAP_FAILED)
@@ -89,40 +89,40 @@ static bool map_spans(size_t count) {
         __real_munmap(chunk, size);
         return false;
     }
-    spans_mapped += size / span_size;
+    spans_mapped += size / granules_span_size;
     return true;
 }
 
-/* The first of so many that were never taken, or SPANS. */
+/* The first of so many that were never taken, or GRANULE_SPANS. */
 static size_t new_spans(size_t count) {
     size_t missing = spans_taken + count > spans_mapped ? spans_taken + count - spans_mapped : 0;
-    if (count >= SPANS || (missing > 0 && !map_spans(missing)))
-        return SPANS;
+    if (count >= GRANULE_SPANS || (missing > 0 && !map_spans(missing)))
+        return GRANULE_SPANS;
     spans_taken += count;
     return spans_taken - count;
 }
 
-static struct life_end end_of_life(size_t span) {
+static struct strand_lifetime_end end_of_lifetime(size_t span) {
     const struct span *of = &spans[span];
-    size_t most = of->step > 0 ? span_size / of->step : 1;
-    return (struct life_end){.span = span,
-                             .dead = of->has_dead ? (unsigned)((most + BLOCK_UNITS - 1) / BLOCK_UNITS) : 0,
+    size_t most = of->step > 0 ? granules_span_size / of->step : 1;
+    return (struct strand_lifetime_end){.span = span,
+                             .dead = of->has_dead ? (unsigned)((most + BLOCK_GRANULES - 1) / BLOCK_GRANULES) : 0,
                              .is_dead_used = of->is_dead_used};
 }
 
-/* No unit of the span has an access any more. */
+/* No granule of the span has an access any more. */
 static void end_span(size_t span) {
     if (doing.tracing)
-        strands_end_life(end_of_life(span));
+        strands_end_lifetime(end_of_lifetime(span));
     else
-        begin_life(span);
+        granules_begin_lifetime(span);
     spans[span] = (struct span){0};
 }
 
-/* One that comes again, or SPANS. */
+/* One that comes again, or GRANULE_SPANS. */
 static size_t old_span(void) {
-    if (free_count <= FREE_SPANS || !is_of_run() || spans_lives.newest == UINT32_MAX)
-        return SPANS;
+    if (free_count <= FREE_SPANS || !is_of_run() || granules_lifetimes.newest == UINT32_MAX)
+        return GRANULE_SPANS;
     size_t span = free_first;
     free_first = spans[span].next;
     free_count--;
@@ -151,27 +151,27 @@ static size_t step_of(size_t size, unsigned *number) {
     unsigned shift = size <= 128 ? 4 : 61 - (unsigned)__builtin_clzll(size - 1);
     size_t steps = (size - 1) / ((size_t)1 << shift) + 1;
     *number = (shift - 4) * 4 + (unsigned)steps;
-    if (steps << shift <= span_size / 8)
+    if (steps << shift <= granules_span_size / 8)
         return steps << shift;
     *number = CLASSES - 1;
-    return span_size;
+    return granules_span_size;
 }
 
 static bool open_span(struct bump *bump, size_t step) {
     size_t span = old_span();
-    if (span == SPANS)
+    if (span == GRANULE_SPANS)
         span = new_spans(1);
     if (bump->end != 0) {
-        size_t full = span_at(bump->end - 1);
+        size_t full = granules_span_at(bump->end - 1);
         spans[full].is_open = false;
         leave_span(full);
     }
     *bump = (struct bump){0};
-    if (span == SPANS)
+    if (span == GRANULE_SPANS)
         return false;
     spans[span].step = (uint32_t)step;
     spans[span].is_open = true;
-    *bump = (struct bump){span_first(span), span_first(span) + span_size};
+    *bump = (struct bump){granules_span_first(span), granules_span_first(span) + granules_span_size};
     return true;
 }
 
@@ -182,18 +182,18 @@ static uintptr_t take_small(size_t size) {
     struct bump *bump = &bumps[number];
     if (bump->end - bump->at < step && !open_span(bump, step))
         return 0;
-    spans[span_at(bump->at)].blocks++;
+    spans[granules_span_at(bump->at)].blocks++;
     bump->at += step;
     return bump->at - step;
 }
 
 static uintptr_t take_large(size_t size) {
-    size_t count = (size - 1) / span_size + 1, first = new_spans(count);
-    if (first == SPANS)
+    size_t count = (size - 1) / granules_span_size + 1, first = new_spans(count);
+    if (first == GRANULE_SPANS)
         return 0;
     for (size_t at = 0; at < count; at++)
         spans[first + at] = (struct span){.before = (uint32_t)at, .blocks = 1};
-    return span_first(first);
+    return granules_span_first(first);
 }
 
 static uintptr_t take_aside(size_t size) {
@@ -217,7 +217,7 @@ void heap_begin_aside(size_t size) {
 void heap_end_aside(void) { is_aside = false; }
 
 static uintptr_t take_bytes(size_t size) {
-    uintptr_t taken = is_aside ? 0 : size <= span_size ? take_small(size) : take_large(size);
+    uintptr_t taken = is_aside ? 0 : size <= granules_span_size ? take_small(size) : take_large(size);
     return taken != 0 ? taken : take_aside(size);
 }
 
@@ -253,40 +253,40 @@ static void *new_block(size_t alignment, size_t size) {
     uintptr_t block = taken + HEAD;
     if (alignment > 0)
         block = (block + alignment - 1) & ~(alignment - 1);
-    bool is_in_strand = doing.tracing && is_of_run() && window_leaves_out;
+    bool is_in_strand = doing.tracing && is_of_run() && steps_may_leave_out;
     head_of((void *)block)->size = size;
-    ((struct head *)taken)->born = is_in_strand ? strand_now() : NOT_IN_STRAND;
+    ((struct head *)taken)->born = is_in_strand ? marks_strand_now() : NOT_IN_STRAND;
     return (void *)block;
 }
 
 /* ---- Blocks that end ---- */
 
 static size_t span_of_block(uintptr_t address) {
-    size_t span = span_at(address);
-    return span < SPANS ? span - spans[span].before : SPANS;
+    size_t span = granules_span_at(address);
+    return span < GRANULE_SPANS ? span - spans[span].before : GRANULE_SPANS;
 }
 
 /* Which of the span's blocks has this address. */
 static size_t block_in(size_t span, uintptr_t address) {
-    return spans[span].step > 0 ? (uint32_t)(address % span_size) / spans[span].step : 0;
+    return spans[span].step > 0 ? (uint32_t)(address % granules_span_size) / spans[span].step : 0;
 }
 
 static uint64_t *born_at(size_t span, uintptr_t address) {
-    return &((struct head *)(span_first(span) + block_in(span, address) * spans[span].step))->born;
+    return &((struct head *)(granules_span_first(span) + block_in(span, address) * spans[span].step))->born;
 }
 
 /* What stands for the block with this address, if it dies in the strand of its birth; or 0. */
 static uint64_t location_if_dead(uintptr_t address) {
-    size_t span = span_of_block(address), number = span < SPANS ? block_in(span, address) : 0;
-    return span < SPANS ? blocks_dead(span, number).location + 2 * (number % BLOCK_UNITS) : 0;
+    size_t span = span_of_block(address), number = span < GRANULE_SPANS ? block_in(span, address) : 0;
+    return span < GRANULE_SPANS ? blocks_dead(span, number).location + 2 * (number % BLOCK_GRANULES) : 0;
 }
 
 /* An access of that location. */
 static void note_dead(bool writes, uintptr_t address, uintptr_t code) {
     size_t span = span_of_block(address), number = block_in(span, address);
-    struct touched in = blocks_dead(span, number);
-    if (!was_done(writes, in.done[number % BLOCK_UNITS]))
-        block_record(writes, &in, number % BLOCK_UNITS, address, code);
+    struct block_touched in = blocks_dead(span, number);
+    if (!blocks_was_done(writes, in.done[number % BLOCK_GRANULES]))
+        records_put_in_block(writes, &in, number % BLOCK_GRANULES, address, code);
 }
 
 void heap_use_dead(bool writes, uintptr_t address, uintptr_t code) {
@@ -294,13 +294,13 @@ void heap_use_dead(bool writes, uintptr_t address, uintptr_t code) {
     note_dead(writes, address, code);
 }
 
-/* The bytes of a block, up to the end of a unit. */
+/* The bytes of a block, up to the end of a granule. */
 static size_t whole_size(const void *block) { return (head_of(block)->size + 7) & ~(size_t)7; }
 
 /* Whether the block was born in the strand that runs. */
 static bool is_of_strand(uintptr_t block) {
     size_t span = span_of_block(block);
-    return doing.tracing && is_of_run() && span < SPANS && *born_at(span, block) == strand_now();
+    return doing.tracing && is_of_run() && span < GRANULE_SPANS && *born_at(span, block) == marks_strand_now();
 }
 
 /* The block dies in the strand of its birth. */
@@ -311,10 +311,10 @@ static void die(uintptr_t block, size_t size) {
 }
 
 void heap_end_block(void *block, __spbags_function self, uintptr_t stack_pointer, uintptr_t code) {
-    if (!block || !doing.tracing || frames_initialising > 0 || (is_on_the_way(self) && stack_pointer < frames_top->end))
+    if (!block || !doing.tracing || frames_initialising > 0 || (frames_is_on_the_way(self) && stack_pointer < frames_top->end))
         return;
-    leave_jumped(stack_pointer, code);
-    if (is_on_the_way(self))
+    procedures_leave_jumped(stack_pointer, code);
+    if (frames_is_on_the_way(self))
         return;
     uintptr_t address = (uintptr_t)block;
     if (!is_of_strand(address)) {
@@ -336,11 +336,11 @@ static void give_back_pages(void *first, void *end) {
 static void give_back_wide(struct wide_block block) {
     for (size_t span = block.first; span < block.first + block.spans; span++) {
         end_span(span);
-        struct touched first = block_at(span_first(span));
-        give_back_pages(first.done, first.done + (span_size >> units_shift));
-        give_back_pages(first.block, first.block + span_size / block_size());
+        struct block_touched first = blocks_at(granules_span_first(span));
+        give_back_pages(first.done, first.done + (granules_span_size >> granules_shift));
+        give_back_pages(first.block, first.block + granules_span_size / blocks_size());
     }
-    give_back_pages((void *)span_first(block.first), (void *)span_first(block.first + block.spans));
+    give_back_pages((void *)granules_span_first(block.first), (void *)granules_span_first(block.first + block.spans));
 }
 
 static void give_back_oldest(void) {
@@ -366,7 +366,7 @@ static void free_block(size_t span, uintptr_t end) {
     if (spans[span].step > 0)
         leave_span(span);
     else if (heap_reuses)
-        free_wide_block((struct wide_block){span, (end - 1 - span_first(span)) / span_size + 1});
+        free_wide_block((struct wide_block){span, (end - 1 - granules_span_first(span)) / granules_span_size + 1});
     unlock_heap();
 }
 
@@ -375,7 +375,7 @@ static void free_block(size_t span, uintptr_t end) {
 static void give_back(void *block) {
     uintptr_t address = (uintptr_t)block;
     size_t span = span_of_block(address);
-    if (!is_of_run() || span >= SPANS || *born_at(span, address) == FREED)
+    if (!is_of_run() || span >= GRANULE_SPANS || *born_at(span, address) == FREED)
         return;
     *born_at(span, address) = FREED;
     free_block(span, address + head_of(block)->size);
@@ -395,7 +395,7 @@ size_t malloc_usable_size(void *block) { return block ? head_of(block)->size : 0
 
 void *malloc(size_t size) { return BLOCK(0, size); }
 
-static bool is_zero(uintptr_t block) { return span_at(block) >= SPANS || spans_lives.of[span_at(block)] == 0; }
+static bool is_zero(uintptr_t block) { return granules_span_at(block) >= GRANULE_SPANS || granules_lifetimes.of[granules_span_at(block)] == 0; }
 
 void *calloc(size_t count, size_t size) {
     size_t whole;
@@ -433,7 +433,7 @@ int posix_memalign(void **block, size_t alignment, size_t size) {
     void *made = BLOCK(alignment, size);
     if (!made)
         return errno;
-    if (doing.tracing && is_program(CODE))
+    if (doing.tracing && caller_is_program(CODE))
         NOTE_WRITE(block, sizeof *block, posix_memalign);
     *block = made;
     return 0;

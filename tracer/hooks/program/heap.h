@@ -1,6 +1,6 @@
 /* The heap of the program: malloc and its like. */
-#ifndef SPBAGS_HEAP_H
-#define SPBAGS_HEAP_H
+#ifndef SPBAGS_PROGRAM_HEAP_H
+#define SPBAGS_PROGRAM_HEAP_H
 
 #include "base/caller.h"
 

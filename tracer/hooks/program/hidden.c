@@ -25,7 +25,7 @@ void hidden_set(unsigned count) {
     frames_initialising += count - hidden_updates;
     hidden_updates = count;
     if (doing.tracing)
-        short_way_find();
+        frames_find_short_way();
 }
 
 /* An update of a view that has more memory elsewhere begins and ends. */

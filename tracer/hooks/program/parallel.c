@@ -13,23 +13,23 @@
 /* How many children of these have begun; a child's frame has its number in place of what a function has called. */
 static uint32_t parts_begun;
 
-/* A child of the function or scope that calls this begins: one of a construct, at this code of the program's, with these
-   as its first and its last iteration. It returns by __spbags_return. */
+/* A child of the function or scope that calls this begins: one of a construct, at this code of the program's, with
+   these as its first and its last iteration. It returns by __spbags_return. */
 void __spbags_part(const char *of, const void *code, long first, long last) {
     if (!doing.tracing)
         return;
-    frames_begin_child((__spbags_function)__spbags_counter, STACK_POINTER, CODE);
+    procedures_begin_child((__spbags_function)__spbags_counter, STACK_POINTER, CODE);
     frames_top->code = code ? (uintptr_t)code : CODE;
     frames_top->called = ++parts_begun;
-    note_part((struct part){.of = of, .first = (uint64_t)first, .last = (uint64_t)last});
+    frames_note_part((struct frame_part){.of = of, .first = (uint64_t)first, .last = (uint64_t)last});
 }
 
 /* The number of the child around, which no other one has; 0 in the root. */
 unsigned long __spbags_child_number(void) {
     const struct frame *frame = frames_top;
-    while (frame > frames_all && (frame->kind != CHILD || frame->called == 0))
+    while (frame > frames_all && (frame->kind != FRAME_CHILD || frame->called == 0))
         frame--;
-    return doing.tracing && frame->kind == CHILD ? frame->called : 0;
+    return doing.tracing && frame->kind == FRAME_CHILD ? frame->called : 0;
 }
 
 /* ---- Lines of the report ---- */
@@ -83,12 +83,12 @@ void __spbags_leave_parallel(const char *const *unused) {
     (void)unused;
     if (!doing.tracing)
         return;
-    leave_jumped(STACK_POINTER, CODE);
-    if (frames_top->kind == CHILD)
+    procedures_leave_jumped(STACK_POINTER, CODE);
+    if (frames_top->kind == FRAME_CHILD)
         tell_at(frames_top->code ? frames_top->code : CODE, leaves_child);
-    leave_children(CODE);
-    if (frames_top->kind == SCOPE)
-        frames_leave_top(CODE);
+    procedures_leave_children(CODE);
+    if (frames_top->kind == FRAME_SCOPE)
+        procedures_leave_top(CODE);
 }
 
 /* ---- Groups of tasks ---- */
@@ -108,46 +108,46 @@ static size_t newest_group;
 
 static struct frame *holder_now(void) {
     struct frame *frame = frames_top;
-    while (frame->kind == FUNCTION && is_of_function(frame - 1))
+    while (frame->kind == FRAME_FUNCTION && frames_is_of_function(frame - 1))
         frame--;
     return frame;
 }
 
 static void open_group(const void *id, struct frame *holder, uintptr_t code) {
     if (doing.version == 1)
-        fail("a group of tasks needs version 2 of the trace: leave out SPBAGS_VERSION=1");
+        tell_fault("a group of tasks needs version 2 of the trace: leave out SPBAGS_VERSION=1");
     if (!task_groups)
-        task_groups = memory_reserve(MOST_DEPTH * sizeof *task_groups);
-    if (++newest_group == MOST_DEPTH)
-        fail("groups of tasks nest deeper than %d", MOST_DEPTH);
+        task_groups = memory_reserve(FRAME_MOST_DEPTH * sizeof *task_groups);
+    if (++newest_group == FRAME_MOST_DEPTH)
+        tell_fault("groups of tasks nest deeper than %d", FRAME_MOST_DEPTH);
 #ifdef SPBAGS_OPENMP
     tell_at(code, "a group of tasks in a program with OpenMP: a wait of the one may be taken for a wait of the other");
 #endif
-    bool marks = holder->children == NONE;
+    bool marks = holder->children == FRAME_NONE;
     if (marks)
-        holder->children = procedures_count;
+        holder->children = frames_procedures;
     procedures_open(SPBAGS_CALL, code);
-    task_groups[newest_group] = (struct task_group){id, holder, procedures_count, marks};
+    task_groups[newest_group] = (struct task_group){id, holder, frames_procedures, marks};
     frames_grouped = holder;
 }
 
 static void close_group(uintptr_t code) {
     const struct task_group *group = &task_groups[newest_group--];
-    while (procedures_count >= group->procedure)
+    while (frames_procedures >= group->procedure)
         procedures_close(code);
     if (group->marks)
-        group->holder->children = NONE;
+        group->holder->children = FRAME_NONE;
     frames_grouped = newest_group > 0 ? task_groups[newest_group].holder : NULL;
 }
 
 /* Whether what holds the group is itself one of its tasks. Then whoever waits for that waits for these too. */
 static bool is_in_own_task(const struct task_group *group) {
-    return group->holder[-1].kind == CHILD && group->holder[-1].callee == (__spbags_function)group->id;
+    return group->holder[-1].kind == FRAME_CHILD && group->holder[-1].callee == (__spbags_function)group->id;
 }
 
 void parallel_leave_groups(uintptr_t code) {
     while (newest_group > 0 && task_groups[newest_group].holder >= frames_top) {
-        if (!is_in_own_task(&task_groups[newest_group]) && task_groups[newest_group].holder[-1].kind == CHILD)
+        if (!is_in_own_task(&task_groups[newest_group]) && task_groups[newest_group].holder[-1].kind == FRAME_CHILD)
             tell_at(
                 task_groups[newest_group].holder[-1].code,
                 "tasks outlive the child here that runs them in a group from outside, and in the trace end with it: "
@@ -169,7 +169,7 @@ void __spbags_group_run(const void *id, const char *of, const void *code, long f
     if (!doing.tracing)
         return;
     uintptr_t stack_pointer = STACK_POINTER, here = code ? (uintptr_t)code : CODE;
-    back_to_function(stack_pointer, CODE);
+    procedures_back_to_function(stack_pointer, CODE);
     struct frame *holder = holder_now();
     size_t at = group_at(id, holder);
     if (at == 0)
@@ -179,12 +179,12 @@ void __spbags_group_run(const void *id, const char *of, const void *code, long f
                 "a task begins in one group while a newer one hasn't been waited for, and the wait for that one waits "
                 "for it too: races after it aren't seen");
     procedures_open(SPBAGS_SPAWN, CODE);
-    frames_push(CHILD, frames_top->end - 1);
+    procedures_push(FRAME_CHILD, frames_top->end - 1);
     frames_top->stack_pointer = stack_pointer;
     frames_top->callee = (__spbags_function)id;
     frames_top->code = here;
     frames_top->called = ++parts_begun;
-    note_part((struct part){.of = of, .first = (uint64_t)first, .last = (uint64_t)last});
+    frames_note_part((struct frame_part){.of = of, .first = (uint64_t)first, .last = (uint64_t)last});
 }
 
 static void wait_for_group(const void *id, uintptr_t code) {
@@ -194,7 +194,7 @@ static void wait_for_group(const void *id, uintptr_t code) {
     if (at < newest_group)
         tell_at(code,
                 "a newer group hasn't been waited for, and this wait waits for it too: races after it aren't seen");
-    if (frames_top->node != NONE)
+    if (frames_top->node != FRAME_NONE)
         look_at_wait(frames_top, code, false);
     while (newest_group >= at)
         close_group(code);
@@ -204,7 +204,7 @@ static void wait_for_group(const void *id, uintptr_t code) {
 void __spbags_group_wait(const void *id) {
     if (!doing.tracing)
         return;
-    back_to_function(STACK_POINTER, CODE);
+    procedures_back_to_function(STACK_POINTER, CODE);
     wait_for_group(id, CODE);
 }
 
@@ -212,10 +212,10 @@ void __spbags_group_wait(const void *id) {
 void __spbags_leave_group(const void *const *id) {
     if (!doing.tracing)
         return;
-    leave_jumped(STACK_POINTER, CODE);
-    if (frames_top->kind == CHILD)
+    procedures_leave_jumped(STACK_POINTER, CODE);
+    if (frames_top->kind == FRAME_CHILD)
         tell_at(frames_top->code ? frames_top->code : CODE, leaves_child);
-    leave_children(CODE);
+    procedures_leave_children(CODE);
     wait_for_group(*id, CODE);
 }
 
@@ -225,16 +225,16 @@ void __spbags_leave_group(const void *const *id) {
 void __spbags_pause(int change) {
     frames_initialising += (unsigned)change;
     if (doing.tracing)
-        short_way_find();
+        frames_find_short_way();
 }
 
 /* An access of what stands for a container's state. */
 void __spbags_touch(const volatile void *at, unsigned long size, int writes) {
-    note_access(writes != 0, (uintptr_t)at, size, (__spbags_function)__spbags_touch, STACK_POINTER, CODE);
+    accesses_note(writes != 0, (uintptr_t)at, size, (__spbags_function)__spbags_touch, STACK_POINTER, CODE);
 }
 
-void __spbags_hold(const volatile void *guard, const char *name) { enter_guard((uintptr_t)guard, name); }
-void __spbags_release(const volatile void *guard) { leave_guard((uintptr_t)guard); }
+void __spbags_hold(const volatile void *guard, const char *name) { guards_enter((uintptr_t)guard, name); }
+void __spbags_release(const volatile void *guard) { guards_leave((uintptr_t)guard); }
 
 /* A lock that is held already is held by a task around this, which can't go on. */
 void __spbags_endless_wait(void) { watch_tell_endless(); }

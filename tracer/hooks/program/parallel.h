@@ -1,6 +1,6 @@
 /* Groups of tasks. */
-#ifndef SPBAGS_PARALLEL_H
-#define SPBAGS_PARALLEL_H
+#ifndef SPBAGS_PROGRAM_PARALLEL_H
+#define SPBAGS_PROGRAM_PARALLEL_H
 
 #include "base/common.h"
 

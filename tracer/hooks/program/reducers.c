@@ -4,20 +4,20 @@
 #include "program/procedures.h"
 #include "records/views.h"
 
-/* No unit of the stack's memory that is all the view's has been written, whatever its mark says. */
+/* No granule of the stack's memory that is all the view's has been written, whatever its mark says. */
 static void forget_updates(const struct view *view) {
-    uintptr_t unit = (view->first + units_mask) & ~units_mask;
-    for (; is_of_stack(unit) && unit + units_mask < view->end; unit += units_mask + 1)
-        if (*stack_mark(unit) >= FIRST_READ)
-            *stack_mark(unit) = TOUCHED;
+    uintptr_t granule = (view->first + granules_mask) & ~granules_mask;
+    for (; stacks_have(granule) && granule + granules_mask < view->end; granule += granules_mask + 1)
+        if (*marks_at(granule) >= MARK_FIRST_READ)
+            *marks_at(granule) = MARK_TOUCHED;
 }
 
 static void write_view(struct view *view, uintptr_t code) {
-    if (view->wrote == new_mark(true))
+    if (view->wrote == marks_new(true))
         return;
-    if (view->wrote != BEGINS)
+    if (view->wrote != VIEW_BEGINS)
         forget_updates(view);
-    view->wrote = new_mark(true);
+    view->wrote = marks_new(true);
     views_are_written = true;
     locations_touch(true, view->first, view->end - view->first, code);
     views_are_written = false;
@@ -25,10 +25,10 @@ static void write_view(struct view *view, uintptr_t code) {
 
 static struct view *add_view(uintptr_t first, size_t size, const char *note) {
     struct view *view = views_add(first, size);
-    if (is_of_stack(first)) {
-        uint32_t *mark = stack_mark(first);
-        stack_location(first & ~units_mask, mark);
-        *mark = *mark == UNTOUCHED ? TOUCHED : *mark;
+    if (stacks_have(first)) {
+        uint32_t *mark = marks_at(first);
+        locations_of_stack(first & ~granules_mask, mark);
+        *mark = *mark == MARK_UNTOUCHED ? MARK_TOUCHED : *mark;
     }
     views_set_number(view);
     if (note)
@@ -48,7 +48,7 @@ static void begin_views(uintptr_t first, size_t size, size_t count, const char *
                         uintptr_t code) {
     if (!doing.tracing || size == 0)
         return;
-    leave_jumped(stack_pointer, code);
+    procedures_leave_jumped(stack_pointer, code);
     for (size_t at = 0; at < count; at++) {
         struct view *view = add_view(first + at * size, size, note);
         if (records_views())
@@ -68,7 +68,7 @@ void __spbags_reducers(const volatile void *at, unsigned long size, unsigned lon
 static void *update(uintptr_t at, size_t size, const char *note, uintptr_t stack_pointer, uintptr_t code) {
     enum { FIRST_BYTES = 8 };
     if (records_views() && size > 0) {
-        leave_jumped(stack_pointer, code);
+        procedures_leave_jumped(stack_pointer, code);
         known_view(at, size, note);
         locations_touch(false, at, size < FIRST_BYTES ? size : FIRST_BYTES, code);
     }
@@ -77,7 +77,7 @@ static void *update(uintptr_t at, size_t size, const char *note, uintptr_t stack
 
 static void *value(uintptr_t at, size_t size, const char *note, uintptr_t stack_pointer, uintptr_t code) {
     if (records_views() && size > 0) {
-        leave_jumped(stack_pointer, code);
+        procedures_leave_jumped(stack_pointer, code);
         write_view(known_view(at, size, note), code);
     }
     return (void *)at;
@@ -100,7 +100,7 @@ static void end_view(struct view *view, uintptr_t code) {
 void __spbags_reducers_end(const volatile void *at, unsigned long size) {
     if (!doing.tracing)
         return;
-    leave_jumped(STACK_POINTER, CODE);
+    procedures_leave_jumped(STACK_POINTER, CODE);
     for (struct view *view; (view = views_over((uintptr_t)at, size));)
         end_view(view, CODE);
 }

@@ -25,7 +25,7 @@ void __spbags_passed(const volatile void *at, unsigned long size, const void *co
         passing = passed_count = 0;
     passed[passed_count].first = (uintptr_t)at;
     passed[passed_count++].end = (uintptr_t)at + size;
-    note_access(false, (uintptr_t)at, size, NULL, STACK_POINTER, (uintptr_t)code);
+    accesses_note(false, (uintptr_t)at, size, NULL, STACK_POINTER, (uintptr_t)code);
 }
 
 /* The copy of an argument in memory for a call. */
@@ -39,11 +39,11 @@ void __spbags_argument(const volatile void *at, unsigned long size) {
 void __spbags_detach(const void *code) {
     if (!doing.tracing)
         return;
-    leave_jumped(STACK_POINTER, (uintptr_t)code);
+    procedures_leave_jumped(STACK_POINTER, (uintptr_t)code);
     uintptr_t end = frames_top->end;
     frames_top--;
-    frames_begin_child(NULL, end, (uintptr_t)code);
-    frames_push(FUNCTION, end);
+    procedures_begin_child(NULL, end, (uintptr_t)code);
+    procedures_push(FRAME_FUNCTION, end);
     passed_count = passing == 0 ? passed_count : 0;
     passing = end;
 }
@@ -56,11 +56,11 @@ void __spbags_stored_by(const volatile void *at, unsigned long size, const void 
 /* What the statement evaluates may have thrown before there was a child. */
 static bool end_child(const volatile void *function, unsigned long size, uintptr_t stack_pointer, uintptr_t code) {
     passing = passed_count = 0;
-    leave_below(stack_pointer, code);
-    bool is_child = frames_top->kind == CHILD;
+    procedures_leave_below(stack_pointer, code);
+    bool is_child = frames_top->kind == FRAME_CHILD;
     if (is_child) {
-        frames_forget_below(frames_top->stack_pointer);
-        frames_leave_top(code);
+        procedures_forget_below(frames_top->stack_pointer);
+        procedures_leave_top(code);
     }
     locations_clear((uintptr_t)function, size);
     return is_child;

@@ -42,7 +42,7 @@ static _Unwind_Reason_Code add_call(struct _Unwind_Context *context, void *with)
     struct rest_of_line *rest = with;
     int is_next = 0;
     uintptr_t code = _Unwind_GetIPInfo(context, &is_next);
-    if (!is_program(code))
+    if (!caller_is_program(code))
         return _URC_NO_REASON;
     int length = snprintf(rest->at, (size_t)(rest->end - rest->at), " %#zx", (size_t)code - !is_next);
     if (length >= rest->end - rest->at) {
@@ -59,7 +59,7 @@ static void tell_where(const char *what) {
     ssize_t length = readlink("/proc/self/exe", program, sizeof program - 1);
     program[length < 0 ? 0 : length] = '\0';
     _Unwind_Backtrace(add_call, &(struct rest_of_line){codes, record + sizeof record});
-    if (tells_records())
+    if (tell_by_records())
         snprintf(text, sizeof text, "%s. It is here:", what);
     else
         snprintf(text, sizeof text, "%s. It is here: addr2line -Cfpie %s%s", what, program, codes);

@@ -1,6 +1,6 @@
 /* A watch for waits without end. */
-#ifndef SPBAGS_WATCH_H
-#define SPBAGS_WATCH_H
+#ifndef SPBAGS_PROGRAM_WATCH_H
+#define SPBAGS_PROGRAM_WATCH_H
 
 #include "base/common.h"
 

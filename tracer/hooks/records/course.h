@@ -1,11 +1,11 @@
-/* The course of a run, by which spbags-run knows whether two runs of a program did the same, whatever else they do: write a
-   trace, detect, look, or tell bytes apart. Each run follows its own: which units each strand accesses, what lies
-   between strands and where, the bytes of accesses that don't fill their units, and what is held.
+/* The course of a run, by which spbags-run knows whether two runs of a program did the same, whatever else they do:
+   write a trace, detect, look, or tell bytes apart. Each run follows its own: which granules each strand accesses, what
+   lies between strands and where, the bytes of accesses that don't fill their granules, and what is held.
 
    A plain run doesn't see each access of a block. So the accesses to blocks are added up, in any order, and go into the
    digest where the strand, or a part of it, goes out. All else goes there as it comes. */
-#ifndef SPBAGS_COURSE_H
-#define SPBAGS_COURSE_H
+#ifndef SPBAGS_RECORDS_COURSE_H
+#define SPBAGS_RECORDS_COURSE_H
 
 #include "shadow/blocks.h"
 
@@ -18,14 +18,14 @@ extern struct course {
     /* The same of what was held, in which strands; and before the newest strand in which that changed. */
     uint64_t guards, guards_before, guards_strand;
     /* Of the blocks of a part of a strand. */
-    unsigned __int128 units;
+    unsigned __int128 granules;
     /* How many parts of strands have gone out. */
     uint64_t parts;
 } course;
 /* A run that isn't plain ends behind so many records. */
 extern uint64_t course_last_record;
 
-/* For spbags-run a line says what it was. */
+/* For spbags-run a record says what it was. */
 void course_tell(void);
 
 /* A polynomial of all that came, whose factor is odd. */
@@ -38,29 +38,29 @@ static inline void course_structure(enum spbags_kind kind, uintptr_t code) {
 
 /* The strand, or a part of it, has gone out. */
 static inline void course_part(void) {
-    if (course.units != 0) {
-        course_mix(&course.digest, (uint64_t)course.units);
-        course_mix(&course.digest, (uint64_t)(course.units >> 64));
-        course.units = 0;
+    if (course.granules != 0) {
+        course_mix(&course.digest, (uint64_t)course.granules);
+        course_mix(&course.digest, (uint64_t)(course.granules >> 64));
+        course.granules = 0;
     }
     course.parts++;
 }
 
 /* The number of the part at hand. */
-static inline uint64_t part_now(void) { return course.parts + 1; }
+static inline uint64_t course_part_now(void) { return course.parts + 1; }
 
 static inline void course_stack(bool writes, uint64_t location) {
     course.records++;
     course_mix(&course.digest, location << 3 | (writes ? SPBAGS_WRITE : SPBAGS_READ));
 }
 
-static inline unsigned count_units(uint64_t units) {
-    if (units + 1 <= 1)
-        return (unsigned)units & BLOCK_UNITS;
+static inline unsigned course_count(uint64_t granules) {
+    if (granules + 1 <= 1)
+        return (unsigned)granules & BLOCK_GRANULES;
     const uint64_t ones = UINT64_MAX / 15;
-    units -= units >> 1 & 5 * ones;
-    units = (units & 3 * ones) + (units >> 2 & 3 * ones);
-    return (unsigned)(((units + (units >> 4)) & UINT64_MAX / 17) * (UINT64_MAX / 255) >> 56);
+    granules -= granules >> 1 & 5 * ones;
+    granules = (granules & 3 * ones) + (granules >> 2 & 3 * ones);
+    return (unsigned)(((granules + (granules >> 4)) & UINT64_MAX / 17) * (UINT64_MAX / 255) >> 56);
 }
 
 /* That of a block's reads, by its location; and of its writes. */
@@ -70,24 +70,24 @@ static inline uint64_t course_factor(bool writes, uint64_t block) {
     return writes ? factor ^ 0xbf58476d1ce4e5b8u : factor;
 }
 
-/* Units of the block that has this location. A sum of single units is that of all together. */
-static inline void course_units(uint64_t block, uint64_t reads, uint64_t writes) {
-    course.units += (unsigned __int128)course_factor(false, block) * reads;
-    course.units += (unsigned __int128)course_factor(true, block) * writes;
-    course.records += count_units(reads) + count_units(writes);
+/* Granules of the block that has this location. A sum of single granules is that of all together. */
+static inline void course_granules(uint64_t block, uint64_t reads, uint64_t writes) {
+    course.granules += (unsigned __int128)course_factor(false, block) * reads;
+    course.granules += (unsigned __int128)course_factor(true, block) * writes;
+    course.records += course_count(reads) + course_count(writes);
 }
 
-/* A unit with this location. */
-static inline void course_unit(bool writes, uint64_t location) {
-    const unsigned unit = location / 2 % BLOCK_UNITS;
+/* A granule with this location. */
+static inline void course_granule(bool writes, uint64_t location) {
+    const unsigned granule = location / 2 % BLOCK_GRANULES;
     if (location % 2 == 1)
         course_stack(writes, location);
     else
-        course_units(location & ~(uint64_t)(2 * BLOCK_UNITS - 1), (uint64_t)!writes << unit, (uint64_t)writes << unit);
+        course_granules(location & ~(uint64_t)(2 * BLOCK_GRANULES - 1), (uint64_t)!writes << granule, (uint64_t)writes << granule);
 }
 
-/* An access, be it a repeat or not, that doesn't fill its units, to what isn't a thread's own. */
-static inline void course_narrow(bool writes, uintptr_t address, size_t size) {
+/* An access, be it a repeat or not, that doesn't fill its granules, to what isn't a thread's own. */
+static inline void course_partial(bool writes, uintptr_t address, size_t size) {
     course_mix(&course.digest, address << 1 | writes);
     course_mix(&course.digest, size);
 }

@@ -11,14 +11,14 @@ const struct line lines_of_structure[8] = {
     [SPBAGS_SYNC] = LINE("sync"),
 };
 #define NO_HUNDRED ((uint64_t)1 << 63)
-struct hundred lines_hundreds[2] = {{.first = NO_HUNDRED}, {.first = NO_HUNDRED}};
+struct line_hundred lines_hundreds[2] = {{.first = NO_HUNDRED}, {.first = NO_HUNDRED}};
 char lines_two_digits[100][2];
 
 /* A line is made from its end. Where the run ends meanwhile, as without room on the stack, it is of no location. */
-void lines_make_hundred(struct hundred *made, bool writes, uint64_t number) {
+void lines_make_hundred(struct line_hundred *made, bool writes, uint64_t number) {
     char *end = made->line + sizeof made->line, *at = end;
     made->first = NO_HUNDRED;
-    in_order();
+    changes_in_order();
     *--at = '\n';
     at -= 2;
     for (uint64_t rest = number; rest > 0; rest /= 10)
@@ -28,7 +28,7 @@ void lines_make_hundred(struct hundred *made, bool writes, uint64_t number) {
     at += !writes;
     made->length = (size_t)(end - at);
     memmove(made->line, at, made->length);
-    in_order();
+    changes_in_order();
     made->first = 100 * number;
 }
 
@@ -41,19 +41,19 @@ static const uint64_t *volatile next_out = at_hand;
 /* The line of any record. */
 static inline size_t put_line(char *line, uint64_t record) {
     const unsigned kind = record & 7;
-    return kind == SPBAGS_READ || kind == SPBAGS_WRITE ? put_access_line(line, kind == SPBAGS_WRITE, record >> 3)
-                                                       : put_structure_line(line, kind);
+    return kind == SPBAGS_READ || kind == SPBAGS_WRITE ? lines_access(line, kind == SPBAGS_WRITE, record >> 3)
+                                                       : lines_structure(line, kind);
 }
 
 static void write_record(uint64_t record) {
     if (doing.looking) {
-        pass_place(record);
+        lines_pass_place(record);
         return;
     }
-    const size_t length = put_line(room(&outcome), record & without_site);
-    if (doing.keeping_places && (record & 7) != numbers_end)
-        places_put((uint16_t)(record >> SITE_SHIFT), 1);
-    end_line(length);
+    const size_t length = put_line(output_room(&output_of_run), record & steps_without_site);
+    if (doing.keeping_places && (record & 7) != steps_numbers_end)
+        places_put((uint16_t)(record >> STEPS_SITE_SHIFT), 1);
+    lines_end(length);
 }
 
 static uint64_t *write_out(const uint64_t *end) {
@@ -73,7 +73,7 @@ void lines_begin(void) {
 
 void lines_drop(void) {
     for (; next_out < steps_next; next_out++)
-        procedures_count -= procedures_opened_by(*next_out & 7);
+        frames_procedures -= frames_procedures_opened_by(*next_out & 7);
     next_out = at_hand;
     steps_begin(at_hand, write_out);
 }

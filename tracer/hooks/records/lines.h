@@ -1,6 +1,6 @@
 /* What goes out for a record: a line of the trace, its place, or in a run that looks nothing but its number. */
-#ifndef SPBAGS_LINES_H
-#define SPBAGS_LINES_H
+#ifndef SPBAGS_RECORDS_LINES_H
+#define SPBAGS_RECORDS_LINES_H
 
 #include "base/changes.h"
 #include "base/output.h"
@@ -22,26 +22,26 @@ extern const struct line {
     size_t length;
 } lines_of_structure[8];
 
-static inline size_t put_structure_line(char *line, unsigned kind) {
+static inline size_t lines_structure(char *line, unsigned kind) {
     __builtin_memcpy(line, lines_of_structure[kind].bytes, sizeof lines_of_structure[kind].bytes);
     return lines_of_structure[kind].length;
 }
 
 /* Lines of the accesses to a hundred locations from this one on, of reads and of writes: as they are where the location
    ends in 00. No location is as great as the first of none. */
-extern struct hundred {
+extern struct line_hundred {
     uint64_t first;
     size_t length;
-    char line[LONGEST];
+    char line[OUTPUT_LONGEST];
 } lines_hundreds[2];
 /* From 00 to 99. */
 extern char lines_two_digits[100][2];
 
-void lines_make_hundred(struct hundred *made, bool writes, uint64_t number);
+void lines_make_hundred(struct line_hundred *made, bool writes, uint64_t number);
 
 /* The line of an access goes here; its length. So many bytes are copied that the size is fixed. */
-static inline size_t put_access_line(char *line, bool writes, uint64_t location) {
-    struct hundred *hundred = &lines_hundreds[writes];
+static inline size_t lines_access(char *line, bool writes, uint64_t location) {
+    struct line_hundred *hundred = &lines_hundreds[writes];
     uint64_t rest = location - hundred->first;
     if (rest >= 100) {
         if (location < 100)
@@ -55,25 +55,25 @@ static inline size_t put_access_line(char *line, bool writes, uint64_t location)
     return length;
 }
 
-static inline void end_line(size_t length) {
-    in_order();
-    outcome.used += length;
-    in_order();
+static inline void lines_end(size_t length) {
+    changes_in_order();
+    output_of_run.used += length;
+    changes_in_order();
 }
 
 /* ---- Records ---- */
 
 /* Whether records are lines of a trace. */
-static inline bool writes_lines(void) { return !detects() && !doing.looking; }
+static inline bool lines_are_written(void) { return !doing_detects() && !doing.looking; }
 
-static inline void write_access(bool writes, uint64_t location) {
-    end_line(put_access_line(room(&outcome), writes, location));
+static inline void lines_write_access(bool writes, uint64_t location) {
+    lines_end(lines_access(output_room(&output_of_run), writes, location));
 }
 
 /* The place of this record is looked at, or not. */
-static inline void pass_place(uint64_t record) {
+static inline void lines_pass_place(uint64_t record) {
     const unsigned kind = record & 7;
-    if (kind == numbers_end || ++look_place_now != look_next_place)
+    if (kind == steps_numbers_end || ++look_place_now != look_next_place)
         return;
     if (kind == SPBAGS_READ || kind == SPBAGS_WRITE)
         look_at_access(kind == SPBAGS_WRITE, record >> 3);
@@ -82,13 +82,13 @@ static inline void pass_place(uint64_t record) {
 }
 
 /* The record's place goes out when its line is there, so that there are as many of both whatever ends the run. */
-static inline void put_access(bool writes, uint64_t location, uint16_t site) {
+static inline void lines_put_access(bool writes, uint64_t location, uint16_t site) {
     if (doing.looking)
-        pass_place(location << 3 | (writes ? SPBAGS_WRITE : SPBAGS_READ));
-    const size_t length = writes_lines() ? put_access_line(room(&outcome), writes, location) : 0;
+        lines_pass_place(location << 3 | (writes ? SPBAGS_WRITE : SPBAGS_READ));
+    const size_t length = lines_are_written() ? lines_access(output_room(&output_of_run), writes, location) : 0;
     if (doing.keeping_places)
         places_put(site, 1);
-    end_line(length);
+    lines_end(length);
 }
 
 #endif

@@ -91,7 +91,7 @@ struct node {
     /* The newest race whose accesses meet in this function, and haven't been waited for: the first of a pair, or one
        that may be pending. */
     struct race *race;
-    struct part part;
+    struct frame_part part;
 };
 enum { MOST_NODES = 1 << 26 };
 static struct node *nodes;
@@ -112,24 +112,24 @@ static _Unwind_Reason_Code unwind(struct _Unwind_Context *context, void *with) {
 /* Where the function with this frame is, if it called a library or a hook that called this code; 0 where nothing says
    it. */
 static uintptr_t code_in(size_t frame, uintptr_t code) {
-    while (frame > 0 && frames_all[frame].kind != FUNCTION)
+    while (frame > 0 && frames_all[frame].kind != FRAME_FUNCTION)
         frame--;
-    if (is_program(code) || frame == 0)
+    if (caller_is_program(code) || frame == 0)
         return code;
     struct unwinding unwinding = {.end = frames_all[frame].end};
     _Unwind_Backtrace(unwind, &unwinding);
-    return is_program(unwinding.code) ? unwinding.code : 0;
+    return caller_is_program(unwinding.code) ? unwinding.code : 0;
 }
 
 static void add_node(size_t at) {
     struct frame *frame = &frames_all[at];
     if (last_node + 1 == MOST_NODES)
-        fail("the races have too many different stacks");
-    enum kind around = frames_all[at - 1].kind;
-    bool is_part = frame->kind >= CALLED, is_shown = is_part || frame->kind == FUNCTION;
-    bool has_part = is_part || (frame->kind == CHILD && frame->code != 0);
+        tell_fault("the races have too many different stacks");
+    enum frame_kind around = frames_all[at - 1].kind;
+    bool is_part = frame->kind >= FRAME_CALLED, is_shown = is_part || frame->kind == FRAME_FUNCTION;
+    bool has_part = is_part || (frame->kind == FRAME_CHILD && frame->code != 0);
     /* A part stands for the function that the hooks call in it. */
-    if (!is_part && (around == CALLED || around == TASK_PART))
+    if (!is_part && (around == FRAME_CALLED || around == FRAME_TASK_PART))
         is_shown = false;
     if (has_part && frames_parts[at].is_hidden)
         is_shown = false;
@@ -139,7 +139,7 @@ static void add_node(size_t at) {
                                        .functions = nodes[parent].functions + is_shown,
                                        .code = code,
                                        .is_shown = is_shown && parent != 0,
-                                       .is_child = !is_of_function(frame) && frame->kind != CALLED};
+                                       .is_child = !frames_is_of_function(frame) && frame->kind != FRAME_CALLED};
     if (has_part)
         nodes[last_node].part = frames_parts[at];
     frame->node = last_node;
@@ -156,7 +156,7 @@ uint32_t look_node_of(size_t frame) {
 }
 
 uint32_t look_procedure_now(void) {
-    uint32_t node = look_node_of(top_at());
+    uint32_t node = look_node_of(look_top());
     while (!nodes[node].is_child && node != 0)
         node = nodes[node].parent;
     return node;
@@ -190,12 +190,12 @@ static uintptr_t way_to(const struct look *look, uint32_t function) {
 
 /* The function whose frame holds this, from the frame's end on. */
 static struct owner frame_owner(uintptr_t address, const struct look *look) {
-    const struct stack *stack = stack_of(address);
+    const struct stack *stack = stacks_find(address);
     if (!stack)
         return (struct owner){0};
     const struct frame *first = stack == stacks_running ? frames_all : stack->frames,
                        *frame = stack == stacks_running ? frames_top : stack->top;
-    while (frame > first && (frame->kind != FUNCTION || frame->end <= address))
+    while (frame > first && (frame->kind != FRAME_FUNCTION || frame->end <= address))
         frame--;
     uint32_t node = stack == stacks_running ? look_node_of((size_t)(frame - first)) : frame->node;
     return (struct owner){way_to(look, node), (intptr_t)(address - frame->end)};
@@ -205,9 +205,9 @@ static struct owner frame_owner(uintptr_t address, const struct look *look) {
 static struct owner data_owner(uintptr_t address, const struct look *look) {
     enum { MOST_DATA = 1 << 16 };
     size_t nearest = 0;
-    if (stack_of(address))
-        for (size_t frame = top_at(); frame > 0; frame--)
-            if (frames_all[frame].kind >= CALLED && frames_parts[frame].data != 0 &&
+    if (stacks_find(address))
+        for (size_t frame = look_top(); frame > 0; frame--)
+            if (frames_all[frame].kind >= FRAME_CALLED && frames_parts[frame].data != 0 &&
                 address - frames_parts[frame].data < MOST_DATA &&
                 (nearest == 0 || frames_parts[frame].data > frames_parts[nearest].data))
                 nearest = frame;
@@ -246,7 +246,7 @@ static size_t race_from(uint64_t location) {
 /* Whether a location from this one up to that one has a race, and isn't of the stack. */
 static bool is_racy(uint64_t first, uint64_t last) {
     size_t at = race_from(first);
-    while (at < races_count && unit_of(races[at].location) % 2 == 1)
+    while (at < races_count && granules_of(races[at].location) % 2 == 1)
         at++;
     return at < races_count && races[at].location <= last;
 }
@@ -254,7 +254,7 @@ static bool is_racy(uint64_t first, uint64_t last) {
 /* The same of a unit's location up to that of another one, or of a byte of them. */
 static bool has_race(uint64_t first, uint64_t last) {
     return is_racy(first, last) ||
-           is_racy(first_byte + MOST_BYTES * first, first_byte + MOST_BYTES * last + MOST_BYTES - 1);
+           is_racy(granules_first_byte + GRANULE_MOST_BYTES * first, granules_first_byte + GRANULE_MOST_BYTES * last + GRANULE_MOST_BYTES - 1);
 }
 
 static uint64_t site_of(uintptr_t code, uint32_t node) {
@@ -267,11 +267,11 @@ static uint64_t site_of(uintptr_t code, uint32_t node) {
 
 /* A block with a race is noted, and who allocates it. A function that longjmp left is no caller. */
 void look_at_block(uintptr_t address, size_t size, uint64_t dead, uintptr_t stack_pointer, uintptr_t code) {
-    uint64_t first = 2 * (name_in_life(address) >> units_shift);
-    address = name_in_life(address);
-    if (size == 0 || !(has_race(first, 2 * ((address + size - 1) >> units_shift)) || has_race(dead, dead)))
+    uint64_t first = 2 * (granules_name(address) >> granules_shift);
+    address = granules_name(address);
+    if (size == 0 || !(has_race(first, 2 * ((address + size - 1) >> granules_shift)) || has_race(dead, dead)))
         return;
-    size_t frame = top_at(), at = allocations_count++;
+    size_t frame = look_top(), at = allocations_count++;
     while (frames_all[frame].end <= stack_pointer)
         frame--;
     for (; at > 0 && allocations[at - 1].address > address; at--)
@@ -337,9 +337,9 @@ static uint32_t *slot_of(const struct race *race, const struct guard *guard, uin
 /* Whether another byte of the race's unit was added to this pair. Those of one unit stand together. */
 static bool is_counted(const struct race *race, uint32_t pair) {
     const struct race *at = race;
-    while (at > races && unit_of(at[-1].location) == unit_of(race->location))
+    while (at > races && granules_of(at[-1].location) == granules_of(race->location))
         at--;
-    for (; at < races + races_count && unit_of(at->location) == unit_of(race->location); at++)
+    for (; at < races + races_count && granules_of(at->location) == granules_of(race->location); at++)
         if (at->pair == pair)
             return true;
     return false;
@@ -383,16 +383,16 @@ void look_at_wait(const struct frame *frame, uintptr_t code, bool ends) {
 /* ---- Accesses of races ---- */
 
 static void take_look(struct race *race, struct look *look, uintptr_t address, uintptr_t code) {
-    look->node = look_node_of(top_at());
-    look->code = code_in(top_at(), code);
+    look->node = look_node_of(look_top());
+    look->code = code_in(look_top(), code);
     look->guards = guards_now();
-    look->is_narrow = bytes_left_out(address) != 0;
+    look->is_narrow = granules_bytes_left_out(address) != 0;
     if (look == &race->first) {
-        race->noted = held_want(look->guards);
+        race->noted = guards_want_entries(look->guards);
         return;
     }
-    race->held_before = held_since(race->noted, race->first.guards, look->node);
-    race->address = name_in_life(address);
+    race->held_before = guards_entered_since(race->noted, race->first.guards, look->node);
+    race->address = granules_name(address);
     race->frame = frame_owner(address, look);
     race->data = data_owner(address, look);
     race->is_view = callbacks.is_of_view(address);
@@ -407,9 +407,9 @@ void look_note_pending(bool writes, uint64_t location, uintptr_t address, uintpt
         return;
     steps_put_rest();
     struct look *look = race->first.place > look_place_now ? &race->first : &race->second;
-    if (look->writes != writes || look->place <= look_place_now || look->part == part_now())
+    if (look->writes != writes || look->place <= look_place_now || look->part == course_part_now())
         return;
-    look->part = part_now();
+    look->part = course_part_now();
     look_is_pending = true;
     take_look(race, look, address, code);
     if (look == &race->second) {
@@ -490,9 +490,9 @@ static uintptr_t thread_first;
 __attribute__((format(__printf__, 1, 2))) static void put(const char *format, ...) {
     va_list rest;
     va_start(rest, format);
-    int length = vsnprintf(room(&outcome), LONGEST, format, rest);
+    int length = vsnprintf(output_room(&output_of_run), OUTPUT_LONGEST, format, rest);
     va_end(rest);
-    outcome.used += (size_t)(length < LONGEST ? length : LONGEST - 1);
+    output_of_run.used += (size_t)(length < OUTPUT_LONGEST ? length : OUTPUT_LONGEST - 1);
 }
 
 static void put_text(const char *text) {
@@ -516,7 +516,7 @@ static void put_stack(const char *name, uintptr_t code, uint32_t node) {
 static void put_child(uint32_t node, uint32_t meets) {
     while (node > meets && nodes[node].parent != meets)
         node = nodes[node].parent;
-    const struct part *part = &nodes[node].part;
+    const struct frame_part *part = &nodes[node].part;
     if (node <= meets || !nodes[node].is_child || !part->of)
         return;
     put("child %s", part->of);
@@ -527,7 +527,7 @@ static void put_child(uint32_t node, uint32_t meets) {
 
 static void put_side(const char *name, const struct look *look, uint32_t meets) {
     put("%s %s", name, look->writes ? "write" : "read");
-    put(" %d", guards_find(look->guards, ATOMIC) != NULL);
+    put(" %d", guards_find(look->guards, GUARD_ATOMIC) != NULL);
     put_stack("", look->code, look->node);
     put_child(look->node, meets);
 }
@@ -538,7 +538,7 @@ static void put_owner(struct owner owner) {
 }
 
 static bool owner_goes_on(struct owner before, struct owner owner) {
-    return owner.code == before.code && (owner.code == 0 || owner.offset == before.offset + (intptr_t)units_mask + 1);
+    return owner.code == before.code && (owner.code == 0 || owner.offset == before.offset + (intptr_t)granules_mask + 1);
 }
 
 /* Whether the calls down to both of these are the same: a loop may make one again and again. */
@@ -556,8 +556,8 @@ static bool has_stacks_of(const struct race *race, const struct race *other) {
 
 /* Whether this race is of the unit behind that of the one before, in one pair. */
 static bool goes_on(const struct race *before, const struct race *race) {
-    return !is_of_byte(race->location) && race->pair == before->pair && race != pairs[race->pair].race &&
-           race->address == before->address + units_mask + 1 && owner_goes_on(before->frame, race->frame) &&
+    return !granules_is_byte(race->location) && race->pair == before->pair && race != pairs[race->pair].race &&
+           race->address == before->address + granules_mask + 1 && owner_goes_on(before->frame, race->frame) &&
            owner_goes_on(before->data, race->data) && has_stacks_of(before, race);
 }
 
@@ -574,7 +574,7 @@ static void put_pair(const struct pair *pair, const struct race *race) {
     const struct allocation *allocation = allocation_of(race->address);
     uint32_t meets = meeting(race->first.node, race->second.node);
     put("pair %" PRIu64, pair->count);
-    put(" %" PRIu64, unit_of(race->location));
+    put(" %" PRIu64, granules_of(race->location));
     put(" %lx", race->address);
     put(" %u", nodes[meets].functions);
     put(" %d\n", pair->is_narrow);
@@ -637,9 +637,9 @@ static uint32_t pair_for(const struct race *race, size_t units) {
 static void put_in_block(const struct race *race, size_t units) {
     struct pair *pair = &pairs[race->pair];
     const struct allocation *allocation = allocation_of(race->address);
-    size_t unit = units_mask + 1;
+    size_t unit = granules_mask + 1;
     uintptr_t begin = allocation ? race->address - allocation->address : 0;
-    size_t length = is_of_byte(race->location) ? 1 : units * unit - race->address % unit;
+    size_t length = granules_is_byte(race->location) ? 1 : units * unit - race->address % unit;
     if (!allocation || (begin == pair->begin && length == pair->length))
         return;
     pair->begin = begin;
@@ -676,7 +676,7 @@ static void put_addresses(void) {
 static void put_narrow(void) {
     for (const struct race *race = races; race < races + races_count; race++)
         if (race->pair != 0 && (race->first.is_narrow || race->second.is_narrow))
-            put("narrow %" PRIu64 "\n", unit_of(race->location));
+            put("narrow %" PRIu64 "\n", granules_of(race->location));
 }
 
 void look_put_notes(void) {
@@ -708,13 +708,13 @@ static void read_races(int file) {
     races_count = total > 0 ? *at++ : 0;
     stops_count = 2 * races_count;
     if (races_count == 0 || total != 1 + OF_RACE * races_count + OF_STOP * stops_count)
-        fail("SPBAGS_LOOK: these are no races");
+        tell_fault("SPBAGS_LOOK: these are no races");
     races = memory_reserve((races_count + 1) * sizeof *races);
     stops = memory_reserve(stops_count * sizeof *stops);
     allocations = memory_reserve((races_count + 1) * sizeof *allocations);
     for (struct race *race = races; race < races + races_count; race++, at += OF_RACE) {
         *race = (struct race){.location = at[0], .first = look_at(at[1]), .second = look_at(at[2])};
-        uint64_t filter = filter_at(at[0]), block = look_block_bit(unit_of(at[0]) & ~(uint64_t)(2 * BLOCK_UNITS - 1));
+        uint64_t filter = filter_at(at[0]), block = look_block_bit(granules_of(at[0]) & ~(uint64_t)(2 * BLOCK_GRANULES - 1));
         race_filter[filter / 64] |= (uint64_t)1 << filter % 64;
         look_blocks[block / 64] |= (uint64_t)1 << block % 64;
     }
@@ -731,6 +731,6 @@ void look_begin(int file) {
     slots = memory_reserve(PAIR_SLOTS * sizeof *slots);
     thread_first = own_first_of_thread();
     guards_begin();
-    held_begin((struct held_procedures){look_procedure_now, look_is_in});
+    guards_begin_entries((struct guard_procedures){look_procedure_now, look_is_in});
     doing.looking = true;
 }

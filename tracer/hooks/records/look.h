@@ -2,8 +2,8 @@
    races it notes the code address, what stands on the stack and what is held. Races of the same two code addresses are
    one pair, whose first race stands for it. SPBAGS_LOOK names the file of the races, and the notes go where a trace
    would. */
-#ifndef SPBAGS_LOOK_H
-#define SPBAGS_LOOK_H
+#ifndef SPBAGS_RECORDS_LOOK_H
+#define SPBAGS_RECORDS_LOOK_H
 
 #include "shadow/frames.h"
 
@@ -39,7 +39,7 @@ void look_put_notes(void);
 
 /* What stands for a frame in a stack. */
 extern const char look_region_name[];
-static inline size_t top_at(void) { return (size_t)(frames_top - frames_all); }
+static inline size_t look_top(void) { return (size_t)(frames_top - frames_all); }
 uint32_t look_node_of(size_t frame);
 /* The node of the innermost child that is running, or the root's, and whether a node is of it or of one within. */
 uint32_t look_procedure_now(void);

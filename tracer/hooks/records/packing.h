@@ -1,7 +1,7 @@
 /* Numbers of 2 bytes that repeat themselves take less room: how many are new, these, and then how far back others stand
    already and how many those are; again and again. */
-#ifndef SPBAGS_PACKING_H
-#define SPBAGS_PACKING_H
+#ifndef SPBAGS_RECORDS_PACKING_H
+#define SPBAGS_RECORDS_PACKING_H
 
 #include "base/common.h"
 

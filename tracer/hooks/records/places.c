@@ -6,21 +6,21 @@
 #include "records/packing.h"
 #include "base/tell.h"
 
-static const uint64_t no_list = (uint64_t)MOST_SITE_LISTS << LIST_SHIFT;
+static const uint64_t no_list = (uint64_t)PLACES_MOST_SITE_LISTS << PLACES_LIST_SHIFT;
 static uint64_t *sites;
 static uint32_t sites_count;
 uint64_t *places_site_keys;
 uint16_t *places_site_numbers;
 
 uint16_t places_find_site(uint64_t word) {
-    size_t slot = site_slot(word);
+    size_t slot = places_site_slot(word);
     while (places_site_keys[slot] != word + 1 && places_site_keys[slot] != 0)
-        slot = (slot + 1) % SITE_SLOTS;
+        slot = (slot + 1) % PLACES_SITE_SLOTS;
     if (places_site_keys[slot] == 0) {
-        if (sites_count >= MOST_SITES - FREE_SITES && (word & no_list) != 0 && (word & no_list) != no_list)
+        if (sites_count >= PLACES_MOST_SITES - PLACES_FREE_SITES && (word & no_list) != 0 && (word & no_list) != no_list)
             return places_find_site(word | no_list);
-        if (sites_count == MOST_SITES)
-            return NO_SITE;
+        if (sites_count == PLACES_MOST_SITES)
+            return PLACES_NO_SITE;
         places_site_keys[slot] = word + 1;
         places_site_numbers[slot] = (uint16_t)sites_count;
         sites[sites_count++] = word;
@@ -68,7 +68,7 @@ static void refuse(void) {
     if (out.is_spare)
         give_up();
     else
-        fail("cannot write %s: %s", out.name, strerror(errno));
+        tell_fault("cannot write %s: %s", out.name, strerror(errno));
 }
 
 static bool write_packed(void) {
@@ -141,7 +141,7 @@ void places_put_turns(uint64_t turns, uint64_t bits) {
 /* A line for each list that a site names, from the first on; how many bytes. */
 static uint64_t put_lists(void) {
     uint64_t bytes = 0;
-    for (uint32_t list = 1; list < guards_lists_count && list < MOST_SITE_LISTS; list++) {
+    for (uint32_t list = 1; list < guards_lists_count && list < PLACES_MOST_SITE_LISTS; list++) {
         const struct guard *guard = guards_listed + guards_lists[list].first, *end = guard + guards_lists[list].length;
         for (; guard < end; guard++) {
             char text[1000];
@@ -156,7 +156,7 @@ static uint64_t put_lists(void) {
 /* spbags-run has the lines of the report by their records. For who reads a trace that is kept they stand here. */
 static bool put_end(void) {
     static const char mark[8] = "spbplace";
-    uint64_t lines = tells_records() && out.is_spare ? 0 : tell_kept_length, numbers = out.written / sizeof *packed;
+    uint64_t lines = tell_by_records() && out.is_spare ? 0 : tell_kept_length, numbers = out.written / sizeof *packed;
     bool is_written =
         write_whole(marks, marks_count * sizeof *marks) && write_whole(sites, sites_count * sizeof *sites);
     uint64_t bytes = put_lists(), counts[] = {places_newest.records, numbers, marks_count, sites_count, bytes, lines};
@@ -184,7 +184,7 @@ void places_end(void) {
 static void give_up(void) {
     static bool is_given_up;
     uint64_t needed = sites_count * sizeof *sites + marks_count * sizeof *marks + 100 * (uint64_t)guards_listed_count +
-                      tell_kept_length + PIECE;
+                      tell_kept_length + OUTPUT_PIECE;
     uint64_t kept = out.written > needed ? (out.written - needed) / sizeof *packed : 0;
     while (marks_count > 0 && marks[marks_count - 1].numbers > kept)
         marks_count--;
@@ -205,10 +205,10 @@ void places_open(const char *name) {
     out.name = name;
     out.file = output_open(name, "SPBAGS_PLACES");
     out.most = UINT64_MAX;
-    sites = memory_reserve(MOST_SITES * sizeof *sites);
+    sites = memory_reserve(PLACES_MOST_SITES * sizeof *sites);
     marks = memory_reserve(MOST_MARKS * sizeof *marks);
-    places_site_keys = memory_reserve(SITE_SLOTS * sizeof *places_site_keys);
-    places_site_numbers = memory_reserve(SITE_SLOTS * sizeof *places_site_numbers);
+    places_site_keys = memory_reserve(PLACES_SITE_SLOTS * sizeof *places_site_keys);
+    places_site_numbers = memory_reserve(PLACES_SITE_SLOTS * sizeof *places_site_numbers);
     guards_begin();
     doing.keeping_places = true;
     out.is_spare = strncmp(name, "fd:", 3) == 0;

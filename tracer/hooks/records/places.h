@@ -1,5 +1,5 @@
-#ifndef SPBAGS_PLACES_H
-#define SPBAGS_PLACES_H
+#ifndef SPBAGS_RECORDS_PLACES_H
+#define SPBAGS_RECORDS_PLACES_H
 
 #include "base/common.h"
 #include "records/guards.h"
@@ -13,29 +13,29 @@
    and how many those are.
 
    The thread of the detector writes them where it goes through the records, and else the program's. */
-enum { PLACES_TWO = 65533, PLACES_REPEAT, NO_SITE, MOST_SITES = PLACES_TWO, SITE_SLOTS = 1 << 17 };
+enum { PLACES_TWO = 65533, PLACES_REPEAT, PLACES_NO_SITE, PLACES_MOST_SITES = PLACES_TWO, PLACES_SITE_SLOTS = 1 << 17 };
 /* So many are for code that holds nothing. */
-enum { FREE_SITES = 1 << 14 };
+enum { PLACES_FREE_SITES = 1 << 14 };
 /* The parts of a site's word: the code address, then the list of guards, then the mark of a narrow access. Of the lists
    that have no room there it says that it can't be told. */
-enum { LIST_SHIFT = 48, NARROW_SHIFT = 63, MOST_SITE_LISTS = 0x7fff };
+enum { PLACES_LIST_SHIFT = 48, PLACES_PARTIAL_SHIFT = 63, PLACES_MOST_SITE_LISTS = 0x7fff };
 /* By a hash: a site's word and one, and its number. */
 extern uint64_t *places_site_keys;
 extern uint16_t *places_site_numbers;
 
-static inline uint64_t site_word(bool is_narrow, uintptr_t code) {
+static inline uint64_t places_site_word(bool is_narrow, uintptr_t code) {
     uint64_t list = guards_now();
-    if (__builtin_expect(list > MOST_SITE_LISTS, 0))
-        list = MOST_SITE_LISTS;
-    return code | list << LIST_SHIFT | (uint64_t)is_narrow << NARROW_SHIFT;
+    if (__builtin_expect(list > PLACES_MOST_SITE_LISTS, 0))
+        list = PLACES_MOST_SITE_LISTS;
+    return code | list << PLACES_LIST_SHIFT | (uint64_t)is_narrow << PLACES_PARTIAL_SHIFT;
 }
 
 uint16_t places_find_site(uint64_t word);
 
-static inline size_t site_slot(uint64_t word) { return word * 0x9e3779b97f4a7c15u >> 47; }
+static inline size_t places_site_slot(uint64_t word) { return word * 0x9e3779b97f4a7c15u >> 47; }
 
-static inline uint16_t site_number(uint64_t word) {
-    size_t slot = site_slot(word);
+static inline uint16_t places_site_number(uint64_t word) {
+    size_t slot = places_site_slot(word);
     return __builtin_expect(places_site_keys[slot] == word + 1, 1) ? places_site_numbers[slot] : places_find_site(word);
 }
 

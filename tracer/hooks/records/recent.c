@@ -3,66 +3,66 @@
 #include "records/lines.h"
 #include "shadow/granules.h"
 
-struct recent_records records_recent;
+struct recent_records recent_records;
 
 /* The detector may wait for room then, and the record has gone out before. */
 static void pass_record(const struct recent *passed) {
-    if ((passed->record & 7) != numbers_end)
-        put_access((passed->record & 7) == SPBAGS_WRITE, passed->record >> 3, passed->site);
-    records_recent.gone++;
+    if ((passed->record & 7) != steps_numbers_end)
+        lines_put_access((passed->record & 7) == SPBAGS_WRITE, passed->record >> 3, passed->site);
+    recent_records.gone++;
     recent_step(passed->record);
 }
 
 void recent_pass_on(void) {
-    while (records_recent.gone < records_recent.used)
-        pass_record(&records_recent.list[records_recent.gone]);
-    records_recent.before += records_recent.used;
-    records_recent.used = records_recent.gone = 0;
-    window_number = window_last_number;
+    while (recent_records.gone < recent_records.used)
+        pass_record(&recent_records.list[recent_records.gone]);
+    recent_records.before += recent_records.used;
+    recent_records.used = recent_records.gone = 0;
+    steps_window_number = steps_last_number;
 }
 
-void recent_drop(void) { records_recent.used = records_recent.gone = 0; }
+void recent_drop(void) { recent_records.used = recent_records.gone = 0; }
 
 void recent_keep(uint64_t record, uint16_t site) {
-    records_recent.list[records_recent.used++] = (struct recent){record, site};
-    if (records_recent.used == WINDOW)
+    recent_records.list[recent_records.used++] = (struct recent){record, site};
+    if (recent_records.used == STEPS_WINDOW)
         recent_pass_on();
 }
 
 static void leave_out_recent(uintptr_t before) {
-    size_t to = before > records_recent.before ? before - records_recent.before : 0;
-    to = to <= records_recent.used ? to : 0;
-    for (size_t from = to; from < records_recent.used; from++) {
-        uint64_t record = records_recent.list[from].record, location = unit_of(record >> 3);
-        records_recent.list[to] = records_recent.list[from];
-        to += !((record & 7) != numbers_end && location % 2 == 1 && is_dying(location / 2));
+    size_t to = before > recent_records.before ? before - recent_records.before : 0;
+    to = to <= recent_records.used ? to : 0;
+    for (size_t from = to; from < recent_records.used; from++) {
+        uint64_t record = recent_records.list[from].record, location = granules_of(record >> 3);
+        recent_records.list[to] = recent_records.list[from];
+        to += !((record & 7) != steps_numbers_end && location % 2 == 1 && steps_is_dying(location / 2));
     }
-    records_recent.used = to;
+    recent_records.used = to;
 }
 
 /* ---- In any run ---- */
 
-void records_end_window(void) {
-    begin_records();
+void recent_end_window(void) {
+    recent_begin();
     recent_end();
-    finish_records();
+    recent_finish();
 }
 
-void records_leave_out_dying(uintptr_t before) {
-    begin_records();
+void recent_leave_out_dying(uintptr_t before) {
+    recent_begin();
     if (doing.plain)
         steps_leave_out(before);
     else
         leave_out_recent(before);
-    finish_records();
-    end_dying();
+    recent_finish();
+    steps_end_dying();
 }
 
-void records_end_numbers(uint64_t location) {
-    begin_records();
+void recent_end_numbers(uint64_t location) {
+    recent_begin();
     if (doing.plain)
-        step(numbers_end, location);
+        steps_put(steps_numbers_end, location);
     else
-        recent_keep(location << 3 | numbers_end, NO_SITE);
-    finish_records();
+        recent_keep(location << 3 | steps_numbers_end, PLACES_NO_SITE);
+    recent_finish();
 }

@@ -1,6 +1,6 @@
 #include "records/records.h"
 
-#include "records/divided.h"
+#include "records/byte_granular.h"
 #include "records/lines.h"
 #include "shadow/frames.h"
 #include "shadow/marks.h"
@@ -13,55 +13,55 @@ void records_structure(enum spbags_kind kind, uintptr_t code) {
     news++;
     course_structure(kind, code);
     if (doing.looking)
-        pass_place(kind);
-    const size_t length = writes_lines() ? put_structure_line(room(&outcome), kind) : 0;
+        lines_pass_place(kind);
+    const size_t length = lines_are_written() ? lines_structure(output_room(&output_of_run), kind) : 0;
     if (doing.keeping_places)
-        places_put(site_number(code), 1);
-    procedures_count += procedures_opened_by(kind);
-    end_line(length);
+        places_put(places_site_number(code), 1);
+    frames_procedures += frames_procedures_opened_by(kind);
+    lines_end(length);
     recent_step(spbags_record(kind, 0));
 }
 
 /* The access is new in its block, which has its place. */
-static void keep_access(bool writes, const struct touched *in, unsigned unit, uint64_t site) {
+static void keep_access(bool writes, const struct block_touched *in, unsigned granule, uint64_t site) {
     if (doing.keeping_places)
-        note_sites(writes, in, (uint64_t)1 << unit, site);
-    in->done[unit] |= writes ? WROTE_IT : READ_IT;
+        strands_note_sites(writes, in, (uint64_t)1 << granule, site);
+    in->done[granule] |= writes ? BLOCK_WROTE : BLOCK_READ;
 }
 
-/* The access of a unit, or of a byte; its block, or null for one that goes out at once. */
-static inline void begin_access(bool writes, const struct touched *in, uint64_t location, uintptr_t address,
+/* The access of a granule, or of a byte; its block, or null for one that goes out at once. */
+static inline void begin_access(bool writes, const struct block_touched *in, uint64_t location, uintptr_t address,
                                 uintptr_t code, uint64_t site) {
     if (in)
-        list_block(in);
+        strands_list(in);
     if (doing.looking)
         look_note_pending(writes, location, address, code);
     if (in)
         keep_access(writes, in, (location - in->location) / 2, site);
     else
         recent_keep(spbags_record(writes ? SPBAGS_WRITE : SPBAGS_READ, location),
-                    doing.keeping_places ? site_number(site) : NO_SITE);
+                    doing.keeping_places ? places_site_number(site) : PLACES_NO_SITE);
 }
 
-/* That of a byte of a unit that is divided. */
+/* That of a byte of a granule that is byte-granular. */
 static void begin_byte(bool writes, uint64_t location, uintptr_t address, uintptr_t code) {
-    begin_access(writes, NULL, location, address, code, site_word(true, code));
+    begin_access(writes, NULL, location, address, code, places_site_word(true, code));
 }
 
-void records_access(bool writes, const struct touched *in, uint64_t location, uintptr_t address, uintptr_t code) {
-    begin_record();
+void records_access(bool writes, const struct block_touched *in, uint64_t location, uintptr_t address, uintptr_t code) {
+    recent_begin_one();
     news += in != NULL;
-    if (!__builtin_expect(divided_any, 0) || !divided_access(writes, in, location, address, code, begin_byte)) {
-        uint64_t site = doing.keeping_places ? site_of_access(address, code) : 0;
-        course_unit(writes, location);
+    if (!__builtin_expect(byte_granular_any, 0) || !byte_granular_access(writes, in, location, address, code, begin_byte)) {
+        uint64_t site = doing.keeping_places ? records_site(address, code) : 0;
+        course_granule(writes, location);
         begin_access(writes, in, location, address, code, site);
     }
     if (doing.writing_repeats) {
         strands_put();
-        begin_strand();
+        marks_begin_strand();
     }
-    end_change();
-    end_at_last();
+    changes_end();
+    recent_end_at_last();
 }
 
 /* ---- What others ask ---- */
@@ -74,12 +74,12 @@ void records_drop(void) {
 }
 
 /* What the strand has accessed in blocks. */
-static uint64_t units_touched(void) {
+static uint64_t granules_touched(void) {
     uint64_t count = 0;
     for (size_t at = 0; at < strands_part.used; at++) {
         const uint8_t *done = strands_part.list[at].done;
-        count += (uint64_t)__builtin_popcountll(units_with(done, READ_IT));
-        count += (uint64_t)__builtin_popcountll(units_with(done, WROTE_IT));
+        count += (uint64_t)__builtin_popcountll(blocks_granules_with(done, BLOCK_READ));
+        count += (uint64_t)__builtin_popcountll(blocks_granules_with(done, BLOCK_WROTE));
     }
     return count;
 }
@@ -88,6 +88,6 @@ bool records_have_new(void) {
     static uint64_t seen, touched;
     const uint64_t seen_before = seen, touched_before = touched;
     seen = news;
-    touched = units_touched();
+    touched = granules_touched();
     return touched != touched_before || (doing.plain ? steps_have_new() : seen != seen_before);
 }

@@ -1,6 +1,6 @@
 /* What is done for each record of a run as it comes: it goes out when its strand ends, or at once. */
-#ifndef SPBAGS_RECORDS_H
-#define SPBAGS_RECORDS_H
+#ifndef SPBAGS_RECORDS_RECORDS_H
+#define SPBAGS_RECORDS_RECORDS_H
 
 #include "base/tell.h"
 #include "records/course.h"
@@ -9,60 +9,60 @@
 #include "records/recent.h"
 #include "records/strands.h"
 
-/* What is done for one in a run that isn't plain, where divided.h and look.h have their part. */
+/* What is done for one in a run that isn't plain, where byte_granular.h and look.h have their part. */
 void records_structure(enum spbags_kind kind, uintptr_t code);
-void records_access(bool writes, const struct touched *in, uint64_t location, uintptr_t address, uintptr_t code);
+void records_access(bool writes, const struct block_touched *in, uint64_t location, uintptr_t address, uintptr_t code);
 
-static inline uint64_t site_of_access(uintptr_t unit, uintptr_t code) {
-    return site_word(bytes_left_out(unit) != 0, code);
+static inline uint64_t records_site(uintptr_t granule, uintptr_t code) {
+    return places_site_word(granules_bytes_left_out(granule) != 0, code);
 }
 
-static inline void step_access(bool writes, uint64_t location, uintptr_t address, uintptr_t code) {
-    begin_records();
+static inline void records_step(bool writes, uint64_t location, uintptr_t address, uintptr_t code) {
+    recent_begin();
     if (__builtin_expect(doing.looking, 0))
         look_note_pending(writes, location, address, code);
     course_stack(writes, location);
-    step_at(writes ? SPBAGS_WRITE : SPBAGS_READ, location,
-            __builtin_expect(doing.keeping_places, 0) ? site_number(site_of_access(address, code)) : 0);
-    finish_records();
+    steps_put_at(writes ? SPBAGS_WRITE : SPBAGS_READ, location,
+            __builtin_expect(doing.keeping_places, 0) ? places_site_number(records_site(address, code)) : 0);
+    recent_finish();
 }
 
-/* These units of a block have been accessed, in a plain run. None of them is accessed in part if places are kept. */
-static inline void note_in_block(bool writes, const struct touched *in, uint64_t units, uintptr_t code) {
-    begin_records();
-    list_block(in);
+/* These granules of a block have been accessed, in a plain run. None of them is accessed in part if places are kept. */
+static inline void records_note_in_block(bool writes, const struct block_touched *in, uint64_t granules, uintptr_t code) {
+    recent_begin();
+    strands_list(in);
     if (__builtin_expect(doing.keeping_places, 0))
-        note_sites(writes, in, units, site_word(false, code));
-    set_done(in->done, units, writes ? WROTE_IT : READ_IT);
-    finish_records();
+        strands_note_sites(writes, in, granules, places_site_word(false, code));
+    blocks_set(in->done, granules, writes ? BLOCK_WROTE : BLOCK_READ);
+    recent_finish();
 }
 
-static inline void note_one_in_block(bool writes, const struct touched *in, unsigned unit, uintptr_t address,
+static inline void records_note_one(bool writes, const struct block_touched *in, unsigned granule, uintptr_t address,
                                      uintptr_t code) {
-    begin_records();
-    list_block(in);
+    recent_begin();
+    strands_list(in);
     if (__builtin_expect(doing.looking, 0))
-        look_note_pending(writes, in->location + 2 * unit, address, code);
+        look_note_pending(writes, in->location + 2 * granule, address, code);
     if (__builtin_expect(doing.keeping_places, 0))
-        note_sites(writes, in, (uint64_t)1 << unit, site_of_access(address, code));
-    set_bit(&in->done[unit], writes ? WROTE_IT : READ_IT);
-    finish_records();
+        strands_note_sites(writes, in, (uint64_t)1 << granule, records_site(address, code));
+    blocks_set_bit(&in->done[granule], writes ? BLOCK_WROTE : BLOCK_READ);
+    recent_finish();
 }
 
-static inline void access_record(bool writes, uint64_t location, uintptr_t address, uintptr_t code) {
+static inline void records_put_access(bool writes, uint64_t location, uintptr_t address, uintptr_t code) {
     if (__builtin_expect(doing.plain, 1))
-        step_access(writes, location, address, code);
+        records_step(writes, location, address, code);
     else
         records_access(writes, NULL, location, address, code);
 }
 
-/* Of the unit in its block. */
-static inline void block_record(bool writes, const struct touched *in, unsigned unit, uintptr_t address,
+/* Of the granule in its block. */
+static inline void records_put_in_block(bool writes, const struct block_touched *in, unsigned granule, uintptr_t address,
                                 uintptr_t code) {
     if (__builtin_expect(doing.plain, 1))
-        note_one_in_block(writes, in, unit, address, code);
+        records_note_one(writes, in, granule, address, code);
     else
-        records_access(writes, in, in->location + 2 * unit, address, code);
+        records_access(writes, in, in->location + 2 * granule, address, code);
 }
 
 /* What hasn't gone out never does, and what is open is so in what has. */

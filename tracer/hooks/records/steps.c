@@ -4,9 +4,9 @@
 
 uint64_t *steps_next, *steps_window, *steps_end, *steps_pause;
 uintptr_t steps_origin;
-uint64_t window_last_number, window_number;
-bool window_leaves_out;
-struct dying window_dying = {.first = WINDOW_NUMBERS};
+uint64_t steps_last_number, steps_window_number;
+bool steps_may_leave_out;
+struct steps_dying steps_dying = {.first = STEPS_WINDOW_NUMBERS};
 
 /* Up to where the memory at hand has been looked through, and whether something new was there that steps_have_new
    hasn't told. */
@@ -16,8 +16,8 @@ static steps_hand_over *hand_over;
 
 /* A record begins one strand at most. */
 static void find_pause(void) {
-    const uint32_t strands = MOST_STRANDS - marks_read / 2;
-    steps_pause = steps_end - steps_window < WINDOW ? steps_end : steps_window + WINDOW;
+    const uint32_t strands = MARK_MOST_STRANDS - marks_read / 2;
+    steps_pause = steps_end - steps_window < STEPS_WINDOW ? steps_end : steps_window + STEPS_WINDOW;
     if (steps_pause - steps_next > (ptrdiff_t)strands)
         steps_pause = steps_next + strands;
 }
@@ -26,15 +26,15 @@ void steps_begin(uint64_t *memory, steps_hand_over *given) {
     hand_over = given;
     seen = steps_next = memory;
     steps_end = memory + STEPS_AT_HAND;
-    pass_steps();
+    steps_pass();
     find_pause();
 }
 
 void steps_look_on(void) {
     if (!doing.plain)
-        pass_steps();
-    else if (steps_next - steps_window == WINDOW)
-        begin_window();
+        steps_pass();
+    else if (steps_next - steps_window == STEPS_WINDOW)
+        steps_begin_window();
     if (steps_next == steps_end)
         steps_pass_on();
     find_pause();
@@ -44,7 +44,7 @@ void steps_look_on(void) {
 static void look_for_new(void) {
     const uint64_t *at = seen;
     seen = steps_next;
-    while (at < seen && ((*at & 7) == numbers_end || ((*at & 7) >= SPBAGS_READ && (*at >> 3) % 2 == 1)))
+    while (at < seen && ((*at & 7) == steps_numbers_end || ((*at & 7) >= SPBAGS_READ && (*at >> 3) % 2 == 1)))
         at++;
     if (at < seen)
         is_new = true;
@@ -64,18 +64,18 @@ void steps_pass_on(void) {
 }
 
 void steps_put_rest(void) {
-    if (doing.plain && !detects() && steps_window > steps_end - STEPS_AT_HAND)
+    if (doing.plain && !doing_detects() && steps_window > steps_end - STEPS_AT_HAND)
         steps_pass_on();
 }
 
 void steps_put_words(uint64_t record, const uint64_t *words, size_t count) {
-    pass_steps();
+    steps_pass();
     if ((size_t)(steps_end - steps_next) <= 1 + count)
         steps_pass_on();
     *steps_next++ = record;
     for (size_t at = 0; at < count; at++)
         *steps_next++ = words[at];
-    pass_steps();
+    steps_pass();
 }
 
 void steps_leave_out(uintptr_t before) {
@@ -83,10 +83,10 @@ void steps_leave_out(uintptr_t before) {
     if (to < steps_window || to > steps_next)
         to = steps_window;
     for (const uint64_t *from = to; from < steps_next; from++) {
-        uint64_t record = *from, kind = record & 7, number = (record & without_site) >> 4;
+        uint64_t record = *from, kind = record & 7, number = (record & steps_without_site) >> 4;
         bool is_of_stack = (kind == SPBAGS_READ || kind == SPBAGS_WRITE) && (record >> 3) % 2 == 1;
         *to = record;
-        to += !(is_of_stack && is_dying(number));
+        to += !(is_of_stack && steps_is_dying(number));
     }
     steps_next = to;
     if (seen > to)

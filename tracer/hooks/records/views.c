@@ -36,14 +36,14 @@ static void remove_at(size_t at) {
 
 void views_remove(const struct view *view) { remove_at((size_t)(view - views)); }
 
-/* The number of the stack's unit with this address, which has none if nothing has touched it. */
+/* The number of the stack's granule with this address, which has none if nothing has touched it. */
 static uint64_t stack_number(uintptr_t address) {
-    const uint32_t *mark = stack_mark(address);
-    return *mark == UNTOUCHED ? 0 : *number_of(mark);
+    const uint32_t *mark = marks_at(address);
+    return *mark == MARK_UNTOUCHED ? 0 : *marks_number(mark);
 }
 
 static uint64_t number_at(uintptr_t address) {
-    return is_of_stack(address) ? stack_number(address) : name_in_life(address);
+    return stacks_have(address) ? stack_number(address) : granules_name(address);
 }
 
 void views_set_number(struct view *view) { view->number = number_at(view->first); }
@@ -76,7 +76,7 @@ struct view *views_add(uintptr_t first, size_t size) {
     if (!views)
         views = memory_reserve(MOST_VIEWS * sizeof *views);
     if (views_count == MOST_VIEWS)
-        fail("there are more than %d reducers at once", MOST_VIEWS);
+        tell_fault("there are more than %d reducers at once", MOST_VIEWS);
     size_t at = view_above(first);
     while (at < views_count && views[at].first < first + size)
         remove_at(at);
@@ -88,21 +88,21 @@ struct view *views_add(uintptr_t first, size_t size) {
     return &views[at];
 }
 
-enum update views_update_of(uintptr_t unit, unsigned shift, bool repeats) {
-    uintptr_t first = unit, end = unit + ((uintptr_t)1 << shift);
-    if (units_narrow.end != 0) {
-        first = units_narrow.first > first ? units_narrow.first : first;
-        end = units_narrow.end < end ? units_narrow.end : end;
+enum view_update views_update_of(uintptr_t granule, unsigned shift, bool repeats) {
+    uintptr_t first = granule, end = granule + ((uintptr_t)1 << shift);
+    if (granules_partial.end != 0) {
+        first = granules_partial.first > first ? granules_partial.first : first;
+        end = granules_partial.end < end ? granules_partial.end : end;
     }
     struct view *view = views_are_written ? NULL : views_at(first);
     if (!view || end > view->end)
-        return NO_UPDATE;
-    if (!repeats && view->wrote == BEGINS)
-        view->wrote = TOUCHED;
-    return view->first <= unit && unit + ((uintptr_t)1 << shift) <= view->end ? UPDATES_UNIT : UPDATES_PART;
+        return VIEW_NO_UPDATE;
+    if (!repeats && view->wrote == VIEW_BEGINS)
+        view->wrote = MARK_TOUCHED;
+    return view->first <= granule && granule + ((uintptr_t)1 << shift) <= view->end ? VIEW_UPDATES_GRANULE : VIEW_UPDATES_PART;
 }
 
 void views_forget(void) {
     for (size_t at = 0; at < views_count; at++)
-        views[at].wrote = TOUCHED;
+        views[at].wrote = MARK_TOUCHED;
 }

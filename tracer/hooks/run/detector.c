@@ -20,21 +20,21 @@ static struct bundle {
     bool is_last;
     /* With as many as are looked at together behind the last one. */
     uint64_t records[STEPS_AT_HAND + TOGETHER];
-} bundles[BUNDLES];
+} bundles[DETECTOR_BUNDLES];
 /* That which is filled. */
 static struct bundle *filling;
 static sem_t full_bundles, free_bundles;
 static pthread_t detector;
-/* What the detector's thread has at hand: its session; how many spawns and accesses it has taken; and blocks of the stack's
-   numbers, each at the remainder of its own, of which these units have ended. To forget a few of a block takes nearly as
-   long as to forget all. So they wait until another block has the place, which is never wrong: they don't come again. The
-   program's thread writes to no line of the cache that has these. */
+/* What the detector's thread has at hand: its session; how many spawns and accesses it has taken; and blocks of the
+   stack's numbers, each at the remainder of its own, of which these granules have ended. To forget a few of a block
+   takes nearly as long as to forget all. So they wait until another block has the place, which is never wrong: they
+   don't come again. The program's thread writes to no line of the cache that has these. */
 enum { TWO_LINES = 128, ENDED_BLOCKS = 8 };
 static struct {
     void *session;
     uint64_t spawns, accesses;
     struct ended_block {
-        uint64_t block, units;
+        uint64_t block, granules;
     } ended[ENDED_BLOCKS];
 } __attribute__((aligned(TWO_LINES))) at_hand;
 
@@ -50,15 +50,15 @@ static void give_bundle(const uint64_t *end) {
 static uint64_t *hand_over(const uint64_t *end) {
     give_bundle(end);
     wait_for(&free_bundles);
-    filling = &bundles[(filling - bundles + 1) % BUNDLES];
+    filling = &bundles[(filling - bundles + 1) % DETECTOR_BUNDLES];
     return filling->records;
 }
 
 /* ---- What the detector's thread does ---- */
 __attribute__((noinline, cold, noreturn)) static void refuse_step(unsigned status) {
     if (status == SPBAGS_NO_MEMORY)
-        fail("out of memory: the detector needs more than the system gives, so the run ends here without a report");
-    fail("the detector rejected a record with status %u, so the run ends here without a report", status);
+        tell_fault("out of memory: the detector needs more than the system gives, so the run ends here without a report");
+    tell_fault("the detector rejected a record with status %u, so the run ends here without a report", status);
 }
 
 /* What the library is compiled for has an instruction for it. */
@@ -101,16 +101,16 @@ COUNTS_BITS static struct plain_records find_plain(const uint64_t *first, const 
 }
 
 static uint64_t block_of_ending(uint64_t ending) {
-    return (ending >> 4) / ((uint64_t)BLOCK_UNITS / GROUP_NUMBERS << GROUP_NUMBERS);
+    return (ending >> 4) / ((uint64_t)BLOCK_GRANULES / STEPS_GROUP_NUMBERS << STEPS_GROUP_NUMBERS);
 }
 
-static uint64_t units_of_ending(uint64_t ending) {
-    uint64_t group = ending >> 4 >> GROUP_NUMBERS, members = (ending >> 4) % (1u << GROUP_NUMBERS);
-    return members << group * GROUP_NUMBERS % BLOCK_UNITS;
+static uint64_t granules_of_ending(uint64_t ending) {
+    uint64_t group = ending >> 4 >> STEPS_GROUP_NUMBERS, members = (ending >> 4) % (1u << STEPS_GROUP_NUMBERS);
+    return members << group * STEPS_GROUP_NUMBERS % BLOCK_GRANULES;
 }
 
-static void forget(uint64_t location, uint64_t units) {
-    uint8_t status = spbags_forget(at_hand.session, location, units);
+static void forget(uint64_t location, uint64_t granules) {
+    uint8_t status = spbags_forget(at_hand.session, location, granules);
     if (status != SPBAGS_TAKEN)
         refuse_step(status);
 }
@@ -119,10 +119,10 @@ static void end_numbers(uint64_t ending) {
     const uint64_t block = block_of_ending(ending);
     struct ended_block *ended = &at_hand.ended[block % ENDED_BLOCKS];
     if (ended->block != block) {
-        forget(2 * BLOCK_UNITS * ended->block + 1, ended->units);
+        forget(2 * BLOCK_GRANULES * ended->block + 1, ended->granules);
         *ended = (struct ended_block){.block = block};
     }
-    ended->units |= units_of_ending(ending);
+    ended->granules |= granules_of_ending(ending);
 }
 
 /* Those of a block's records; the next one of the run. */
@@ -150,15 +150,15 @@ COUNTS_BITS static uint64_t *take_block(uint64_t *record) {
 /* Blocks that have ended; the next record. */
 static uint64_t *take_ended(uint64_t *record) {
     for (uint64_t bits = record[1]; bits != 0; bits &= bits - 1)
-        forget((*record >> 3) + 2 * BLOCK_UNITS * (uint64_t)__builtin_ctzll(bits), UINT64_MAX);
+        forget((*record >> 3) + 2 * BLOCK_GRANULES * (uint64_t)__builtin_ctzll(bits), UINT64_MAX);
     return record + 2;
 }
 
 /* The sites of these records, which are without them then. */
 static void take_sites_of(uint64_t *records, size_t count) {
     for (uint64_t *record = records; record < records + count; record++) {
-        places_put((uint16_t)(*record >> SITE_SHIFT), 1);
-        *record &= without_site;
+        places_put((uint16_t)(*record >> STEPS_SITE_SHIFT), 1);
+        *record &= steps_without_site;
     }
 }
 
@@ -181,7 +181,7 @@ static void take_bundle(struct bundle *bundle) {
         const unsigned kind = *at & 7;
         if (kind <= SPBAGS_WRITE)
             at = take_records(at, last);
-        else if (kind == block_follows)
+        else if (kind == steps_block_follows)
             at = take_block(at);
         else if ((*at >> 3) % 2 == 0)
             at = take_ended(at);
@@ -206,8 +206,8 @@ static void put_report(void) {
     size_t lines = 0;
     for (unsigned byte; (byte = spbags_next(at_hand.session)) < SPBAGS_AT_END; lines += byte == '\n')
         if (report_is_asked || lines <= MOST_SHOWN) {
-            *room(&outcome) = (char)byte;
-            outcome.used++;
+            *output_room(&output_of_run) = (char)byte;
+            output_of_run.used++;
         }
     races_count = lines > 0 ? lines - 1 : 0;
     detector_has_races = races_count > 0;
@@ -246,7 +246,7 @@ static void show_progress(void) {
 static void *detect(void *nothing) {
     bool is_last = false;
     spbags_new(at_hand.session);
-    for (size_t number = 0; !is_last; number = (number + 1) % BUNDLES) {
+    for (size_t number = 0; !is_last; number = (number + 1) % DETECTOR_BUNDLES) {
         wait_for(&full_bundles);
         take_bundle(&bundles[number]);
         show_progress();
@@ -270,7 +270,7 @@ static void start_thread(void) {
     pthread_attr_t small;
     heap_begin_aside(BLOCKS);
     sem_init(&full_bundles, 0, 0);
-    sem_init(&free_bundles, 0, BUNDLES - 1);
+    sem_init(&free_bundles, 0, DETECTOR_BUNDLES - 1);
     filling = bundles;
     steps_begin(filling->records, hand_over);
     sigfillset(&all);
@@ -282,16 +282,16 @@ static void start_thread(void) {
     pthread_attr_destroy(&small);
     sigprocmask(SIG_SETMASK, &before, NULL);
     if (error != 0)
-        fail("the thread of the detector can't be started: %s", strerror(error));
+        tell_fault("the thread of the detector can't be started: %s", strerror(error));
     heap_end_aside();
 }
 
 /* The report goes where SPBAGS_REPORT says, named as a trace is, or else to standard error. */
 void detector_begin(void) {
     const char *name = settings_text(SETTING_REPORT), *places_name = settings_text(SETTING_PLACES);
-    outcome.name = name ? name : "standard error";
+    output_of_run.name = name ? name : "standard error";
     report_is_asked = name;
-    outcome.file = name ? output_open(name, "SPBAGS_REPORT") : output_move_away("SPBAGS_REPORT", STDERR_FILENO);
+    output_of_run.file = name ? output_open(name, "SPBAGS_REPORT") : output_move_away("SPBAGS_REPORT", STDERR_FILENO);
     if (places_name)
         places_open(places_name);
     detector_heap_begin();

@@ -1,16 +1,16 @@
 /* The detector inside the program, which spbags-cc links. It takes each record in place of a line of the trace, and at
    the end gives the report. */
-#ifndef SPBAGS_DETECTOR_H
-#define SPBAGS_DETECTOR_H
+#ifndef SPBAGS_RUN_DETECTOR_H
+#define SPBAGS_RUN_DETECTOR_H
 
 #include "base/common.h"
 
 #ifdef SPBAGS_INSIDE
 /* The detector has a thread of its own, which alone calls it. The program's thread hands it the records in bundles, and
    fills one while the detector goes through those before. */
-enum { BUNDLES = 8 };
-/* Whether the report, once it is made, is more than the line `races 0`; and then, how many spawns and accesses the detector
-   has taken. */
+enum { DETECTOR_BUNDLES = 8 };
+/* Whether the report, once it is made, is more than the line `races 0`; and then, how many spawns and accesses the
+   detector has taken. */
 extern bool detector_has_races;
 extern uint64_t detector_spawns, detector_accesses;
 

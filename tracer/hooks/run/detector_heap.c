@@ -15,8 +15,8 @@ static void *(*library_malloc)(size_t);
 static void *(*library_realloc)(void *, size_t);
 static void (*library_free)(void *);
 
-/* What that heap maps would lie where the program's own mappings lie in a run without the detector. So it has the memory
-   behind the program's variables, of which it takes much at once and gives none back. */
+/* What that heap maps would lie where the program's own mappings lie in a run without the detector. So it has the
+   memory behind the program's variables, of which it takes much at once and gives none back. */
 static void keep_mappings_away(void) {
     enum { PIECE_OF_HEAP = 16 << 20 };
     mallopt(M_ARENA_MAX, 1);
@@ -31,7 +31,7 @@ void detector_heap_begin(void) {
     library_realloc = dlsym(RTLD_NEXT, "realloc");
     library_free = dlsym(RTLD_NEXT, "free");
     if (!library_malloc || !library_realloc || !library_free)
-        fail("the C library has no heap for the detector");
+        tell_fault("the C library has no heap for the detector");
 }
 
 /* ---- What the detector's thread alone calls ---- */

@@ -1,6 +1,6 @@
 /* The heap of the detector inside. */
-#ifndef SPBAGS_DETECTOR_HEAP_H
-#define SPBAGS_DETECTOR_HEAP_H
+#ifndef SPBAGS_RUN_DETECTOR_HEAP_H
+#define SPBAGS_RUN_DETECTOR_HEAP_H
 
 #include "base/common.h"
 

@@ -17,26 +17,26 @@
 
 void ends_stop(void) {
     doing.tracing = false;
-    short_way_find();
+    frames_find_short_way();
 }
 
 /* How much was there, for spbags-run. Builds run programs in which nothing is, and read what they print. */
 static void tell_extent(void) {
     char record[100];
     snprintf(record, sizeof record, "ran %" PRIu64 " %" PRIu64, detector_spawns, detector_accesses);
-    if (detects() && tells_records())
+    if (doing_detects() && tell_by_records())
         tell_text(record, "");
 }
 
 static void tell_notes(void) {
-    if (has_had_children())
-        locations_tell_narrow();
-    else if (tells_records())
+    if (frames_had_children())
+        locations_tell_partial();
+    else if (tell_by_records())
         tell_incomplete("nothing ran in parallel: the program made no spawn, task or iteration");
-    if (procedures_most > DEFAULT_DEPTH + 1 && !detects())
-        tell_record(tell_numbered("depth", procedures_most - 1).text,
-                    "procedures nest %u deep, so spbags needs --depth %u or more", procedures_most - 1,
-                    procedures_most - 1);
+    if (frames_procedures_most > FRAME_DEFAULT_DEPTH + 1 && !doing_detects())
+        tell_record(tell_numbered("depth", frames_procedures_most - 1).text,
+                    "procedures nest %u deep, so spbags needs --depth %u or more", frames_procedures_most - 1,
+                    frames_procedures_most - 1);
     openmp_tell_notes();
     unknown_tell();
 }
@@ -49,18 +49,18 @@ static void end_outcome(void) {
     strands_put();
     steps_put_rest();
     course_tell();
-    outcome.most = look_next_place = course_last_record = UINT64_MAX;
-    while (procedures_count > 0)
+    output_of_run.most = look_next_place = course_last_record = UINT64_MAX;
+    while (frames_procedures > 0)
         procedures_close(0);
     steps_put_rest();
     if (doing.looking)
         look_put_notes();
     tell_notes();
-    if (detects())
-        detector_end(has_had_children() || tell_has_told);
+    if (doing_detects())
+        detector_end(frames_had_children() || tell_has_told);
     tell_extent();
     places_end();
-    output_close(&outcome);
+    output_close(&output_of_run);
     detector_tell_next();
     sigprocmask(SIG_SETMASK, &before, NULL);
 }
@@ -71,10 +71,10 @@ void ends_end_run(void) {
 }
 
 void ends_at_limit(void) {
-    uint64_t most = outcome.most;
+    uint64_t most = output_of_run.most;
     records_drop();
     end_outcome();
-    fail_by(tell_numbered("end limit", most).text,
+    tell_fault_by(tell_numbered("end limit", most).text,
             "the trace has reached its limit of %llu bytes, so the run ends here, and the trace has what came before: "
             "SPBAGS_MAX_BYTES sets another limit",
             (unsigned long long)most);
@@ -89,7 +89,7 @@ bool ends_is_traced(void) { return doing.tracing && getpid() == traced_process; 
 /* SPBAGS_EXITCODE is the status of a run whose report has races, and makes that of one with none say where something
    wasn't seen or modelled, unless SPBAGS_INCOMPLETE_OK accepts that. Without it the status is the program's. */
 enum { NOT_ALL_SEEN = 3 };
-int ends_racy_status = PROGRAMS_OWN;
+int ends_racy_status = ENDS_PROGRAMS_OWN;
 static bool is_incomplete_ok;
 
 void ends_read_settings(void) {
@@ -98,12 +98,12 @@ void ends_read_settings(void) {
 }
 
 /* That with which the program would end by itself, as far as it is known. */
-static int own_status = PROGRAMS_OWN;
+static int own_status = ENDS_PROGRAMS_OWN;
 
 /* The status with which the program is to end, which would end with this one. */
 static int end_trace_of(int status) {
     end_outcome();
-    if (ends_racy_status == PROGRAMS_OWN)
+    if (ends_racy_status == ENDS_PROGRAMS_OWN)
         return status;
     if (detector_has_races)
         return ends_racy_status;
@@ -112,14 +112,14 @@ static int end_trace_of(int status) {
 
 /* Where the program doesn't end by itself it has no status of its own. */
 void ends_racy(void) {
-    int status = end_trace_of(PROGRAMS_OWN);
-    if (status != PROGRAMS_OWN)
+    int status = end_trace_of(ENDS_PROGRAMS_OWN);
+    if (status != ENDS_PROGRAMS_OWN)
         __real__exit(status);
 }
 
 /* Before the program ends by itself or becomes another one: a handler of its own may do that while a record is put. */
 static void refuse_amid_record(void) {
-    if (is_amid_record())
+    if (changes_are_amid_record())
         changes_refuse_handler();
 }
 
@@ -160,7 +160,7 @@ static bool end_before_exec(void) {
     if (traced) {
         refuse_amid_record();
         tell_record("end exec", "the program becomes another one by exec, and the %s has what came before",
-                    outcome_name());
+                    doing_outcome_name());
         ends_racy();
     }
     return traced;
@@ -168,7 +168,7 @@ static bool end_before_exec(void) {
 
 static int after_exec(bool traced, int answer) {
     if (traced)
-        tell("the exec failed, and what comes after it isn't in the %s", outcome_name());
+        tell("the exec failed, and what comes after it isn't in the %s", doing_outcome_name());
     return answer;
 }
 
@@ -218,7 +218,7 @@ int __real_daemon(int stays, int keeps);
 int __wrap_daemon(int stays, int keeps) {
     if (ends_is_traced()) {
         refuse_amid_record();
-        tell_record("end daemon", "the program becomes a daemon, and the %s has what came before", outcome_name());
+        tell_record("end daemon", "the program becomes a daemon, and the %s has what came before", doing_outcome_name());
         ends_racy();
     }
     return __real_daemon(stays, keeps);
@@ -229,12 +229,12 @@ int __wrap_daemon(int stays, int keeps) {
 /* In the way of spbags-run there is no answer where the program forks. */
 void ends_refuse_fork(void) {
     if (doing.tracing)
-        fail("the program forks, and only one process can be traced");
+        tell_fault("the program forks, and only one process can be traced");
 }
 
 static void tell_fork(void) {
     static bool told;
-    if (!doing.tracing || !detects() || told)
+    if (!doing.tracing || !doing_detects() || told)
         return;
     tell("the program forks, and the report is of its first process only");
     told = true;
@@ -243,7 +243,7 @@ static void tell_fork(void) {
 /* This fork calls no handlers. */
 pid_t __real__Fork(void);
 pid_t __wrap__Fork(void) {
-    if (tells_records())
+    if (tell_by_records())
         ends_refuse_fork();
     tell_fork();
     pid_t child = __real__Fork();

@@ -1,7 +1,7 @@
 /* How the run ends. Whatever is open in the trace returns then, so that what came before can be judged. Where the run
-   doesn't end by itself, one line says how. */
-#ifndef SPBAGS_ENDS_H
-#define SPBAGS_ENDS_H
+   doesn't end by itself, a warning says how. */
+#ifndef SPBAGS_RUN_ENDS_H
+#define SPBAGS_RUN_ENDS_H
 
 #include "base/common.h"
 
@@ -17,7 +17,7 @@ void ends_at_limit(void);
 /* ---- The program ends ---- */
 
 /* The status of a run whose report has races, or that it is the program's own. */
-enum { PROGRAMS_OWN = -1 };
+enum { ENDS_PROGRAMS_OWN = -1 };
 extern int ends_racy_status;
 
 void ends_read_settings(void);

@@ -9,7 +9,7 @@
 /* For the stubs below: with the address and the stack pointer of the call. */
 __attribute__((used)) static void write_jump_buffer(void *at, uintptr_t code, uintptr_t stack_pointer) {
     if (doing.tracing)
-        note_access(true, (uintptr_t)at, sizeof(jmp_buf), NULL, stack_pointer, code);
+        accesses_note(true, (uintptr_t)at, sizeof(jmp_buf), NULL, stack_pointer, code);
 }
 
 /* setjmp keeps where its caller is, so no function can call it for another one: a stub goes on to it. */

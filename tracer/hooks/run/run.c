@@ -2,7 +2,7 @@
 #include "base/callbacks.h"
 #include "records/course.h"
 #include "run/detector.h"
-#include "records/divided.h"
+#include "records/byte_granular.h"
 #include "run/ends.h"
 #include "shadow/frames.h"
 #include "program/heap.h"
@@ -21,7 +21,7 @@
 #include "run/signals.h"
 
 static void forget_strands(void) {
-    divided_forget();
+    byte_granular_forget();
     views_forget();
 }
 
@@ -35,10 +35,10 @@ const struct callbacks callbacks = {.end_run = ends_end_run,
 /* A number of bytes for the trace; where none is said, a quarter of the space that is free where it goes to a file. */
 static void set_limit(bool is_file) {
     struct statvfs space;
-    if (is_file && fstatvfs(outcome.file, &space) == 0)
-        outcome.most = space.f_bavail * space.f_frsize / 4;
-    outcome.at_limit = ends_at_limit;
-    outcome.most = settings_number_or(SETTING_MAX_BYTES, outcome.most);
+    if (is_file && fstatvfs(output_of_run.file, &space) == 0)
+        output_of_run.most = space.f_bavail * space.f_frsize / 4;
+    output_of_run.at_limit = ends_at_limit;
+    output_of_run.most = settings_number_or(SETTING_MAX_BYTES, output_of_run.most);
 }
 
 /* A trace that goes to a file has its places beside it, where nothing else was said. */
@@ -46,13 +46,13 @@ static void open_outputs(const char *name) {
     static char beside[4096];
     const char *places_name = settings_given(SETTING_PLACES);
     struct stat about;
-    outcome.name = name;
-    outcome.file = output_open(name, "SPBAGS_TRACE");
-    bool is_file = fstat(outcome.file, &about) == 0 && S_ISREG(about.st_mode);
+    output_of_run.name = name;
+    output_of_run.file = output_open(name, "SPBAGS_TRACE");
+    bool is_file = fstat(output_of_run.file, &about) == 0 && S_ISREG(about.st_mode);
     set_limit(is_file);
     if (!places_name && is_file && strcmp(name, "-") != 0 && strncmp(name, "fd:", 3) != 0) {
         if ((size_t)snprintf(beside, sizeof beside, "%s.places", name) >= sizeof beside)
-            fail("SPBAGS_TRACE: the name is too long");
+            tell_fault("SPBAGS_TRACE: the name is too long");
         places_name = beside;
     }
     if (places_name && *places_name)
@@ -62,15 +62,15 @@ static void open_outputs(const char *name) {
 /* What spbags-run asks for. */
 static void open_ways(void) {
     const char *said = settings_text(SETTING_SAYS), *report = settings_text(SETTING_LOOK);
-    const char *units = settings_text(SETTING_DIVIDE), *waits = settings_text(SETTING_WAITED);
+    const char *granules = settings_text(SETTING_DIVIDE), *waits = settings_text(SETTING_WAITED);
     const char *progress = settings_text(SETTING_PROGRESS);
     if (said) {
         tell_file = output_named_file("SPBAGS_SAYS", said);
         pthread_atfork(ends_refuse_fork, NULL, NULL);
     }
     course_last_record = settings_number_or(SETTING_LAST, UINT64_MAX);
-    if (units)
-        divided_begin(output_named_file("SPBAGS_DIVIDE", units));
+    if (granules)
+        byte_granular_begin(output_named_file("SPBAGS_DIVIDE", granules));
     if (report)
         look_begin(output_named_file("SPBAGS_LOOK", report));
     if (waits)
@@ -111,7 +111,7 @@ static void find_stack(void) {
     uintptr_t end = (uintptr_t)environ;
     size_t room = openmp_room_for_members(&size);
     stacks_running_first = (end - size) & ~(uintptr_t)0xffff;
-    stacks_running_size = (end & ~units_mask) - stacks_running_first;
+    stacks_running_size = (end & ~granules_mask) - stacks_running_first;
     stacks_first = stacks_running_first - room;
     stacks_size = room + stacks_running_size;
     stacks[0].first = stacks_running_first;
@@ -122,28 +122,28 @@ static void find_stack(void) {
 
 static void read_settings(void) {
     doing.version = settings_digit(SETTING_VERSION);
-    units_shift = (unsigned)__builtin_ctz(settings_digit(SETTING_UNIT));
-    units_mask = ((uintptr_t)1 << units_shift) - 1;
+    granules_shift = (unsigned)__builtin_ctz(settings_digit(SETTING_UNIT));
+    granules_mask = ((uintptr_t)1 << granules_shift) - 1;
     doing.writing_repeats = settings_is(SETTING_REPEATS, "1");
     watch_set_patience();
     streams_judged = settings_is(SETTING_STREAMS, "1");
     heap_reuses = settings_is(SETTING_REUSE, "1");
-    window_leaves_out = heap_reuses && !doing.writing_repeats;
+    steps_may_leave_out = heap_reuses && !doing.writing_repeats;
 }
 
 static void put_header(void) {
     const char *header = doing.version == 2 ? "trace 2\n" : "trace 1\n";
-    memcpy(room(&outcome), header, strlen(header));
-    outcome.used += strlen(header);
+    memcpy(output_room(&output_of_run), header, strlen(header));
+    output_of_run.used += strlen(header);
 }
 
 __attribute__((constructor(101))) static void start(void) {
     const char *name = settings_text(SETTING_TRACE);
     settings_help();
     ends_read_settings();
-    if (!name && !HAS_DETECTOR) {
-        if (ends_racy_status != PROGRAMS_OWN)
-            fail("SPBAGS_EXITCODE asks for a report, and there is no detector inside: link without --trace");
+    if (!name && !DOING_HAS_DETECTOR) {
+        if (ends_racy_status != ENDS_PROGRAMS_OWN)
+            tell_fault("SPBAGS_EXITCODE asks for a report, and there is no detector inside: link without --trace");
         tell("SPBAGS_TRACE isn't set, so no trace is written");
         return;
     }
@@ -161,17 +161,17 @@ __attribute__((constructor(101))) static void start(void) {
     settings_forget(SETTING_TRACE);
     settings_forget(SETTING_REPORT);
     settings_forget(SETTING_PLACES);
-    spans_need();
+    granules_need_lifetimes();
     find_stack();
     own_begin();
     ends_begin();
     if (name && !doing.looking)
         put_header();
-    doing.plain = !divided_any && !doing.writing_repeats && course_last_record == UINT64_MAX;
+    doing.plain = !byte_granular_any && !doing.writing_repeats && course_last_record == UINT64_MAX;
     doing.plainest = doing.plain && !doing.looking && !doing.keeping_places && doing.version == 2;
     views_follow();
     doing.tracing = true;
-    short_way_find();
+    frames_find_short_way();
     signals_catch();
     watch_begin();
 }

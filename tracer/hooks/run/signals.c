@@ -42,7 +42,7 @@ void signals_end_run(int number) {
     changes_waiting_signal = 0;
     tell_record(tell_numbered("end signal", (uint64_t)number).text,
                 "the program ends by signal %d (%s), and the %s has what came before", number, name_of(number),
-                outcome_name());
+                doing_outcome_name());
     ends_racy();
     die_by(number);
 }
@@ -65,16 +65,16 @@ static void die_inside(int number) {
     die_by(number);
 }
 
-/* The record in whose midst this is can't go on. It says how far it has come where the hooks have no stack for the rest;
-   for anything else a handler of the program's own is the cause. */
+/* The record in whose midst this is can't go on. It says how far it has come where the hooks have no stack for the
+   rest; for anything else a handler of the program's own is the cause. */
 static void end_now(int number, const siginfo_t *about, ucontext_t *context) {
-    bool needs_stack = number == SIGSEGV && is_fault(number, about) && is_by_stack(about->si_addr);
-    bool is_of_handler = !needs_stack || is_program((uintptr_t)context->uc_mcontext.gregs[REG_RIP]);
+    bool needs_stack = number == SIGSEGV && is_fault(number, about) && stacks_are_near(about->si_addr);
+    bool is_of_handler = !needs_stack || caller_is_program((uintptr_t)context->uc_mcontext.gregs[REG_RIP]);
     if (needs_stack)
         tell("the program needs more stack than its limit, which ulimit -s sets");
-    if (changes_stepping && detects())
+    if (changes_stepping && doing_detects())
         die_inside(number);
-    else if (is_amid_record() && is_of_handler)
+    else if (changes_are_amid_record() && is_of_handler)
         changes_refuse_handler();
     else
         end_after_handler(number, context);
@@ -91,7 +91,7 @@ static void on_signal(int number, siginfo_t *about, void *context) {
     came++;
     if (!ends_is_traced() || came == ENOUGH)
         die_by(number);
-    else if (!is_amid_record() || is_fault(number, about) || is_abort(number, about))
+    else if (!changes_are_amid_record() || is_fault(number, about) || is_abort(number, about))
         end_now(number, about, context);
     else
         changes_waiting_signal = number;
@@ -130,7 +130,8 @@ static void follow_handler(int number, sighandler_t wanted) {
         signals_have_handler = true;
 }
 
-/* For the program the handler above is the system's own end by a signal, and where it wants that, it gets the handler. */
+/* For the program the handler above is the system's own end by a signal, and where it wants that, it gets the
+   handler. */
 int __wrap_sigaction(int number, const struct sigaction *wanted, struct sigaction *before) {
     bool ends = wanted && wanted->sa_handler == SIG_DFL && ends_is_traced() && !is_harmless(number);
     if (wanted && !ends)

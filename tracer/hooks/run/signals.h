@@ -1,6 +1,6 @@
 /* Signals that end the program. */
-#ifndef SPBAGS_SIGNALS_H
-#define SPBAGS_SIGNALS_H
+#ifndef SPBAGS_RUN_SIGNALS_H
+#define SPBAGS_RUN_SIGNALS_H
 
 #include "base/common.h"
 

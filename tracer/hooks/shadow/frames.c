@@ -9,16 +9,16 @@
 _Static_assert(offsetof(struct frame, end) == 0 && offsetof(struct frame, kind) == 8 &&
                    offsetof(struct frame, called) == 12 && offsetof(struct frame, children) == 16 &&
                    offsetof(struct frame, node) == 20 && offsetof(struct frame, position) == 24 &&
-                   sizeof(struct frame) == 56 && FUNCTION == 0 && CHILD == 2 && NONE == 0,
+                   sizeof(struct frame) == 56 && FRAME_FUNCTION == 0 && FRAME_CHILD == 2 && FRAME_NONE == 0,
                "inline_checks.s takes a frame for another one");
 
-struct frame *frames_all, *frames_end, *frames_top, *frames_silent, *frames_grouped, **procedures_owners;
-uint32_t procedures_count, procedures_most;
+struct frame *frames_all, *frames_end, *frames_top, *frames_silent, *frames_grouped, **frames_procedures_owners;
+uint32_t frames_procedures, frames_procedures_most;
 unsigned frames_initialising;
 bool frames_left_out_update;
-uintptr_t short_way_end, short_way_bits, short_way_first;
-bool short_way_structure;
-struct part *frames_parts;
+uintptr_t frames_short_way_end, frames_short_way_bits, frames_short_way_first;
+bool frames_short_way_structure;
+struct frame_part *frames_parts;
 
 void frames_begin(size_t size) {
     /* A frame has at least its return address and its frame pointer, and at most one open child. */
@@ -27,15 +27,15 @@ void frames_begin(size_t size) {
     frames_end = frames_all + most_frames;
     if (doing.looking)
         frames_parts = memory_reserve(most_frames * sizeof *frames_parts);
-    procedures_owners = memory_reserve((MOST_DEPTH + 3) * sizeof *procedures_owners);
-    *frames_top = (struct frame){.kind = ROOT, .end = UINTPTR_MAX};
-    procedures_count = procedures_most = 1;
+    frames_procedures_owners = memory_reserve((FRAME_MOST_DEPTH + 3) * sizeof *frames_procedures_owners);
+    *frames_top = (struct frame){.kind = FRAME_ROOT, .end = UINTPTR_MAX};
+    frames_procedures = frames_procedures_most = 1;
 }
 
-void short_way_find(void) {
+void frames_find_short_way(void) {
     bool records = doing.tracing && frames_initialising == 0;
-    short_way_bits = records && !openmp_watches && units_shift == USUAL_SHIFT ? UINTPTR_MAX : 0;
-    short_way_first = doing.plain && short_way_bits != 0 ? stacks_first : UINTPTR_MAX;
-    short_way_structure = records && doing.plainest;
-    follow_top();
+    frames_short_way_bits = records && !openmp_watches && granules_shift == GRANULE_USUAL_SHIFT ? UINTPTR_MAX : 0;
+    frames_short_way_first = doing.plain && frames_short_way_bits != 0 ? stacks_first : UINTPTR_MAX;
+    frames_short_way_structure = records && doing.plainest;
+    frames_follow_top();
 }

@@ -3,19 +3,19 @@
 #include "base/memory.h"
 #include "base/tell.h"
 
-unsigned units_shift;
-uintptr_t units_mask;
-struct range units_narrow;
+unsigned granules_shift;
+uintptr_t granules_mask;
+struct granules_range granules_partial;
 
-struct lives spans_lives;
+struct lifetimes granules_lifetimes;
 
-bool spans_begin(void) {
-    if (!spans_lives.of)
-        spans_lives.of = memory_reserve_or_none(SPANS * sizeof *spans_lives.of);
-    return spans_lives.of != NULL;
+bool granules_begin_lifetimes(void) {
+    if (!granules_lifetimes.of)
+        granules_lifetimes.of = memory_reserve_or_none(GRANULE_SPANS * sizeof *granules_lifetimes.of);
+    return granules_lifetimes.of != NULL;
 }
 
-void spans_need(void) {
-    if (!spans_begin())
-        fail("out of memory: %s", strerror(errno));
+void granules_need_lifetimes(void) {
+    if (!granules_begin_lifetimes())
+        tell_fault("out of memory: %s", strerror(errno));
 }

@@ -24,34 +24,34 @@ struct own_of_thread own_find(void) {
 
 uintptr_t own_first_of_thread(void) { return own_find().part[OWN_VARIABLES].first; }
 
-static bool is_in(struct own_memory memory, uintptr_t unit) {
-    return unit >= (memory.first & ~units_mask) && unit < memory.end;
+static bool is_in(struct own_memory memory, uintptr_t granule) {
+    return granule >= (memory.first & ~granules_mask) && granule < memory.end;
 }
 
-bool own_is_of(const struct own_of_thread *of, uintptr_t unit) {
-    return is_in(of->part[OWN_ERRNO], unit) || is_in(of->part[OWN_VARIABLES], unit);
+bool own_is_of(const struct own_of_thread *of, uintptr_t granule) {
+    return is_in(of->part[OWN_ERRNO], granule) || is_in(of->part[OWN_VARIABLES], granule);
 }
 
-bool own_has(uintptr_t unit) {
-    if (is_of_stack(unit))
-        return *stack_mark(unit) == own_mark;
-    return own_is_of(&own_now, unit) || is_in(own_copies, unit);
+bool own_has(uintptr_t granule) {
+    if (stacks_have(granule))
+        return *marks_at(granule) == marks_own;
+    return own_is_of(&own_now, granule) || is_in(own_copies, granule);
 }
 
 bool own_has_variables(void) { return own_now.part[OWN_VARIABLES].end > own_now.part[OWN_VARIABLES].first; }
 
 /* It counts as written in each strand, or as untouched. */
 static void set_own(struct own_memory memory, bool is_own) {
-    uintptr_t unit = memory.first & ~units_mask;
-    for (; unit < memory.end && is_of_stack(unit); unit += units_mask + 1)
-        *stack_mark(unit) = is_own ? own_mark : UNTOUCHED;
-    while (unit < memory.end) {
-        struct part_of_block part = part_from(unit, memory.end);
-        clear_done(part.in.done, part.units, READ_IT | WROTE_IT);
+    uintptr_t granule = memory.first & ~granules_mask;
+    for (; granule < memory.end && stacks_have(granule); granule += granules_mask + 1)
+        *marks_at(granule) = is_own ? marks_own : MARK_UNTOUCHED;
+    while (granule < memory.end) {
+        struct block_part part = blocks_part_from(granule, memory.end);
+        blocks_clear(part.in.done, part.granules, BLOCK_READ | BLOCK_WROTE);
         if (is_own)
-            set_done(part.in.done, part.units, WROTE_IT);
+            blocks_set(part.in.done, part.granules, BLOCK_WROTE);
         part.in.block->has_own = true;
-        unit = part.end;
+        granule = part.end;
     }
 }
 
@@ -73,9 +73,9 @@ void own_enter(const struct own_of_thread *of) {
         set_own(of->part[at], true);
 }
 
-uint64_t own_units(uintptr_t address) {
-    uint64_t units = 0;
-    for (unsigned unit = 0; unit < BLOCK_UNITS; unit++)
-        units |= (uint64_t)own_has(address + ((uintptr_t)unit << units_shift)) << unit;
-    return units;
+uint64_t own_granules(uintptr_t address) {
+    uint64_t granules = 0;
+    for (unsigned granule = 0; granule < BLOCK_GRANULES; granule++)
+        granules |= (uint64_t)own_has(address + ((uintptr_t)granule << granules_shift)) << granule;
+    return granules;
 }

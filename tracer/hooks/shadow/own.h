@@ -1,7 +1,7 @@
-/* What each thread has of its own: its errno; in OpenMP the program's variables that are local to a thread; and copies for
-   reductions. */
-#ifndef SPBAGS_OWN_H
-#define SPBAGS_OWN_H
+/* What each thread has of its own: its errno; in OpenMP the program's variables that are local to a thread; and copies
+   for reductions. */
+#ifndef SPBAGS_SHADOW_OWN_H
+#define SPBAGS_SHADOW_OWN_H
 
 #include "base/common.h"
 
@@ -28,12 +28,12 @@ void own_add(struct own_memory memory);
 void own_leave(const struct own_of_thread *of);
 void own_enter(const struct own_of_thread *of);
 
-/* Whether this unit is such a thread's; or the running thread's, or copies. */
-bool own_is_of(const struct own_of_thread *of, uintptr_t unit);
-bool own_has(uintptr_t unit);
+/* Whether this granule is such a thread's; or the running thread's, or copies. */
+bool own_is_of(const struct own_of_thread *of, uintptr_t granule);
+bool own_has(uintptr_t granule);
 /* Whether the program has variables that are local to a thread. */
 bool own_has_variables(void);
-/* Which units of the block with this address are the running thread's own. */
-uint64_t own_units(uintptr_t address);
+/* Which granules of the block with this address are the running thread's own. */
+uint64_t own_granules(uintptr_t address);
 
 #endif

@@ -1,16 +1,16 @@
 /* The stacks of the program's threads: its own, and below that those of a team's members, so that all lie in one range.
    One of them runs at a time. While it does, what is known of it stands in variables of the hooks. */
-#ifndef SPBAGS_STACKS_H
-#define SPBAGS_STACKS_H
+#ifndef SPBAGS_SHADOW_STACKS_H
+#define SPBAGS_SHADOW_STACKS_H
 
 #include "base/common.h"
 
-enum { MOST_STACKS = 64 };
+enum { STACK_MOST = 64 };
 /* Between two stacks is so much that belongs to none. */
-static const size_t stack_gap = (size_t)1 << 20;
+static const size_t stacks_gap = (size_t)1 << 20;
 
 struct frame;
-struct part;
+struct frame_part;
 struct body;
 struct turn;
 
@@ -19,7 +19,7 @@ struct stack {
     /* No mark of it stands below this address. */
     uintptr_t lowest;
     struct frame *frames, *frames_end, *top, *grouped, *silent_frame;
-    struct part *parts;
+    struct frame_part *parts;
     struct body *bodies, *newest_body;
     unsigned initialising, hidden_updates;
     /* Of a member's: its thread waits here for its turn, and then does this for the member. */
@@ -27,48 +27,48 @@ struct stack {
     const struct turn *does;
     struct member *member;
 };
-extern struct stack stacks[MOST_STACKS];
+extern struct stack stacks[STACK_MOST];
 extern unsigned stacks_count;
 /* The one that runs, its memory, and the thread that has it, by its pointer. */
 extern struct stack *stacks_running;
 extern uintptr_t stacks_running_first, stacks_running_size;
-/* No mark of it stands below this address, which begins a unit. */
+/* No mark of it stands below this address, which begins a granule. */
 extern uintptr_t stacks_lowest __asm__("__spbags_lowest");
 extern void *stacks_running_thread;
 
 /* The memory of all stacks, and what lies between them. */
 extern uintptr_t stacks_first, stacks_size;
-static inline bool is_of_stack(uintptr_t address) { return address - stacks_first < stacks_size; }
+static inline bool stacks_have(uintptr_t address) { return address - stacks_first < stacks_size; }
 
 /* All that lies between a stack's end and its limit grows by itself, so a fault there is beyond the limit. */
-static inline bool is_by_stack(const void *address) {
-    return (uintptr_t)address - (stacks_first - stack_gap) < stacks_size + stack_gap;
+static inline bool stacks_are_near(const void *address) {
+    return (uintptr_t)address - (stacks_first - stacks_gap) < stacks_size + stacks_gap;
 }
 
 /* The one with this address, or null. */
-static inline struct stack *stack_of(uintptr_t address) {
+static inline struct stack *stacks_find(uintptr_t address) {
     unsigned at = 0;
     while (at < stacks_count && address - stacks[at].first >= stacks[at].end - stacks[at].first)
         at++;
     return at < stacks_count ? &stacks[at] : NULL;
 }
 
-/* A unit of a stack that doesn't run has a number from now on. */
-__attribute__((cold)) void stacks_lower(uintptr_t address);
+/* A granule of a stack that doesn't run has a number from now on. */
+__attribute__((cold)) void stacks_lower_other(uintptr_t address);
 
-static inline bool is_of_running(uintptr_t address) { return address - stacks_running_first < stacks_running_size; }
+static inline bool stacks_is_of_running(uintptr_t address) { return address - stacks_running_first < stacks_running_size; }
 
-/* A unit of the stack has a number from now on, of the one that runs or of any. */
-static inline void lower_running(uintptr_t address) {
+/* A granule of the stack has a number from now on, of the one that runs or of any. */
+static inline void stacks_lower_running(uintptr_t address) {
     if (address < stacks_lowest)
         stacks_lowest = address;
 }
 
-static inline void lower(uintptr_t address) {
-    if (__builtin_expect(is_of_running(address), 1))
-        lower_running(address);
+static inline void stacks_lower(uintptr_t address) {
+    if (__builtin_expect(stacks_is_of_running(address), 1))
+        stacks_lower_running(address);
     else
-        stacks_lower(address);
+        stacks_lower_other(address);
 }
 
 /* The signals have a stack of their own, since the program's may be used up. */

@@ -51,7 +51,7 @@ void __kmpc_fork_call(const void *place, int32_t count, void (*run)(int32_t *, i
     va_list shared;
     (void)place;
     if (count > MOST_SHARED)
-        fail("a parallel region shares more than %d variables", MOST_SHARED);
+        tell_fault("a parallel region shares more than %d variables", MOST_SHARED);
     va_start(shared, run);
     for (int32_t at = 0; at < count; at++)
         task.shared[at] = va_arg(shared, void *);
@@ -119,7 +119,7 @@ void __kmpc_end_single(CLANG) { IGNORE; }
 
 void __kmpc_copyprivate(CLANG, size_t size, void *data, void (*copy)(void *, void *), int32_t is_own) {
     IGNORE, (void)size;
-    if (scopes_thread()->kind != MEMBER)
+    if (scopes_thread()->kind != SCOPE_MEMBER)
         return;
     if (is_own)
         scopes_team()->team->copied = data;
@@ -131,7 +131,7 @@ void __kmpc_copyprivate(CLANG, size_t size, void *data, void (*copy)(void *, voi
 
 void __kmpc_critical(CLANG, void *name) { IGNORE, critical_enter(name); }
 void __kmpc_critical_with_hint(CLANG, void *name, uint32_t hint) { IGNORE, (void)hint, critical_enter(name); }
-void __kmpc_end_critical(CLANG, void *name) { IGNORE, leave_guard((uintptr_t)name); }
+void __kmpc_end_critical(CLANG, void *name) { IGNORE, guards_leave((uintptr_t)name); }
 void __kmpc_ordered(CLANG) { IGNORE, ordered_begin_region(CODE); }
 void __kmpc_end_ordered(CLANG) { IGNORE, ordered_end_region(); }
 void __kmpc_flush(const void *place, ...) { (void)place; }

@@ -1,5 +1,5 @@
-/* Loops as clang compiles them, whose iterations count from 0 by 1; and sections, of which a thread gets all that it has
-   at once. */
+/* Loops as clang compiles them, whose iterations count from 0 by 1; and sections, of which a thread gets all that it
+   has at once. */
 #include "openmp/bodies.h"
 #include "openmp/barriers.h"
 #include "openmp/clang/clang.h"
@@ -63,7 +63,7 @@ void __kmpc_for_static_init_4(CLANG, int32_t schedule, int32_t *is_last, int32_t
     struct loop *loop = thread->loop;
     uint64_t size = shares_left(thread);
     loop->code = loop->code ? loop->code : CODE;
-    loop->has_late_last = bodies.newest->kind == LAST_BODY;
+    loop->has_late_last = bodies.newest->kind == BODY_LAST;
     *first = (int32_t)loop->begun;
     *last = *first + (int32_t)size - 1;
     loop->begun += size;

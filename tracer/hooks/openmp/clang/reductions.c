@@ -37,17 +37,17 @@ static uintptr_t begun_copy(uintptr_t copy, const struct clang_reduction *of) {
 
 /* As gcc's code hands them over; each variable's third word is where LIST has it. */
 static uintptr_t *reductions_of(size_t count, const struct clang_reduction *list) {
-    uintptr_t *array = calloc(FIRST + count * WORDS_EACH, sizeof *array);
+    uintptr_t *array = calloc(REDUCTION_FIRST + count * REDUCTION_WORDS_EACH, sizeof *array);
     if (!array)
-        fail("out of memory for the copies of reductions");
-    array[VARIABLES] = count;
-    array[MEMORY] = COPY_ALIGNMENT;
+        tell_fault("out of memory for the copies of reductions");
+    array[REDUCTION_VARIABLES] = count;
+    array[REDUCTION_MEMORY] = COPY_ALIGNMENT;
     for (size_t at = 0; at < count; at++) {
-        uintptr_t *variable = array + FIRST + at * WORDS_EACH;
+        uintptr_t *variable = array + REDUCTION_FIRST + at * REDUCTION_WORDS_EACH;
         variable[0] = (uintptr_t)list[at].shared;
-        variable[1] = array[SIZE] + sizeof(struct copy_header);
+        variable[1] = array[REDUCTION_SIZE] + sizeof(struct copy_header);
         variable[2] = (uintptr_t)&list[at];
-        array[SIZE] = (variable[1] + list[at].size + COPY_ALIGNMENT - 1) & ~(uintptr_t)(COPY_ALIGNMENT - 1);
+        array[REDUCTION_SIZE] = (variable[1] + list[at].size + COPY_ALIGNMENT - 1) & ~(uintptr_t)(COPY_ALIGNMENT - 1);
     }
     return array;
 }
@@ -56,10 +56,10 @@ static void begin_reductions(size_t count, const struct clang_reduction *list, u
                              uintptr_t code) {
     uintptr_t *array = reductions_of(count, list);
     reductions_register(scopes.newest, array, NULL);
-    parts_open(CALLED, stack_pointer, code);
+    parts_open(FRAME_CALLED, stack_pointer, code);
     for (size_t at = 0; at < count; at++)
         if ((list[at].flags & BEGINS_LATE) == 0)
-            begun_copy(reductions_copy_of(array, array + FIRST + at * WORDS_EACH), &list[at]);
+            begun_copy(reductions_copy_of(array, array + REDUCTION_FIRST + at * REDUCTION_WORDS_EACH), &list[at]);
     parts_close(code);
 }
 
@@ -67,9 +67,9 @@ static void begin_reductions(size_t count, const struct clang_reduction *list, u
 static void end_reductions(uintptr_t *array, uintptr_t stack_pointer, uintptr_t code) {
     if (!array)
         return;
-    parts_open(CALLED, stack_pointer, code);
-    for (uintptr_t number = 0; number < array[VARIABLES]; number++) {
-        uintptr_t *variable = array + FIRST + number * WORDS_EACH, copy = reductions_copy_of(array, variable);
+    parts_open(FRAME_CALLED, stack_pointer, code);
+    for (uintptr_t number = 0; number < array[REDUCTION_VARIABLES]; number++) {
+        uintptr_t *variable = array + REDUCTION_FIRST + number * REDUCTION_WORDS_EACH, copy = reductions_copy_of(array, variable);
         const struct clang_reduction *of = (const struct clang_reduction *)variable[2];
         if (!header_of_copy(copy)->begun)
             continue;
@@ -87,7 +87,7 @@ static void end_group(uintptr_t stack_pointer, uintptr_t code) {
     end_reductions(reductions, stack_pointer, code);
 }
 
-void __kmpc_taskgroup(CLANG) { IGNORE, scopes_push(GROUP, false); }
+void __kmpc_taskgroup(CLANG) { IGNORE, scopes_push(SCOPE_GROUP, false); }
 void __kmpc_end_taskgroup(CLANG) {
     IGNORE, tasks_note_shares_left(CODE);
     end_group(STACK_POINTER, CODE);
@@ -103,7 +103,7 @@ void *__kmpc_taskred_init(int32_t number, int32_t count, const struct clang_redu
 void *__kmpc_taskred_modifier_init(CLANG, int32_t is_loop, int32_t count, const struct clang_reduction *list) {
     IGNORE;
     if (is_loop)
-        scopes_push(GROUP, false);
+        scopes_push(SCOPE_GROUP, false);
     begin_reductions((size_t)count, list, STACK_POINTER, CODE);
     return NULL;
 }

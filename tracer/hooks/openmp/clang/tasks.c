@@ -31,7 +31,7 @@ static struct clang_header *header_of(struct clang_task *task) { return (struct 
 static struct clang_task *clang_block(size_t size, int32_t flags) {
     struct clang_header *header = malloc(sizeof *header + size);
     if (!header)
-        fail("out of memory for a task");
+        tell_fault("out of memory for a task");
     *header = (struct clang_header){.size = (uint32_t)size, .flags = flags};
     return (struct clang_task *)(header + 1);
 }
@@ -48,7 +48,7 @@ struct clang_task *__kmpc_omp_task_alloc(CLANG, int32_t flags, size_t size, size
 
 /* The data of a task as the hooks copy them: the iterations where it is of a loop, its block, and what copies that. */
 struct clang_data {
-    struct bounds bounds;
+    struct task_bounds bounds;
     struct clang_task *task;
     void (*copy)(struct clang_task *, struct clang_task *, int32_t);
 };
@@ -86,10 +86,10 @@ void __kmpc_omp_task_begin_if0(CLANG, struct clang_task *task) {
     IGNORE;
     bool is_final = scopes_task()->final || (header_of(task)->flags & CLANG_FINAL) != 0;
     parts_forget_below(STACK_POINTER);
-    scopes_push(TASK, false)->final = is_final;
-    parts_open(CALLED, STACK_POINTER, CODE);
+    scopes_push(SCOPE_TASK, false)->final = is_final;
+    parts_open(FRAME_CALLED, STACK_POINTER, CODE);
     parts_stay_in_function();
-    note_part((struct part){.of = "task"});
+    frames_note_part((struct frame_part){.of = "task"});
 }
 
 void __kmpc_omp_task_complete_if0(CLANG, struct clang_task *task) {
@@ -119,9 +119,9 @@ struct clang_dependence {
 
 static void follow_clang_depend(int32_t count, const struct clang_dependence *list, bool is_named, uintptr_t code) {
     enum { READS = 1 };
-    struct named names[count + 1];
+    struct depend_named names[count + 1];
     for (int32_t at = 0; at < count; at++)
-        names[at] = (struct named){list[at].address, list[at].flags != READS};
+        names[at] = (struct depend_named){list[at].address, list[at].flags != READS};
     depend_follow(names, (size_t)count, is_named, code);
 }
 
@@ -180,10 +180,10 @@ void __kmpc_taskloop(CLANG, struct clang_task *block, int32_t is_deferred, const
                         .alignment = 16,
                         .deferred = is_deferred != 0,
                         .final = (header_of(block)->flags & CLANG_FINAL) != 0};
-    unsigned flags = (has_no_group ? NO_GROUP : 0) | (says == SAYS_SIZE ? GRAIN_SIZE : 0);
+    unsigned flags = (has_no_group ? TASK_NO_GROUP : 0) | (says == SAYS_SIZE ? TASK_GRAIN_SIZE : 0);
     IGNORE;
     taskloops_do(&task, loops_unsigned(true, *first, *last + 1, (uint64_t)step, 0), flags, wanted, STACK_POINTER, CODE);
-    parts_open(CALLED, STACK_POINTER, CODE);
+    parts_open(FRAME_CALLED, STACK_POINTER, CODE);
     end_clang_task(block);
     parts_close(CODE);
 }
