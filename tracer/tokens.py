@@ -15,6 +15,7 @@ TOKEN = re.compile(
     r"|(?P<mark><%|%>|<:(?!:[^:>])|:>|\.\.\.|<<=|>>=|->|\+\+|--|<<|>>|[-+*/%&|^=!<>]=|&&|::|\|\||.)",
     re.MULTILINE)
 LINE_MARKER = re.compile(r'#(?:line)? *([0-9]+) *("(?:\\.|[^"\\])*")?([ 0-9]*)')
+ASSIGNMENTS = {"=", "+=", "-=", "*=", "/=", "%=", "&=", "|=", "^=", "<<=", ">>="}
 PARTNERS = {")": "(", "]": "[", "}": "{"}
 DIGRAPHS = {"<%": "{", "%>": "}", "<:": "[", ":>": "]"}
 # It begins with one of few signs, which are found quickly.

@@ -23,7 +23,7 @@ HERE = os.path.dirname(os.path.realpath(__file__))
 TRACER = os.path.dirname(HERE)
 sys.dont_write_bytecode = True
 sys.path.insert(0, TRACER)
-import answers
+from report import checker_answers
 from cases import DETECTOR
 
 IS_GCC = os.environ.get("CC", "gcc") == "gcc"
@@ -153,7 +153,7 @@ def accesses(source, level):
     run(os.path.join(TRACER, "spbags-cc"), *DETECTOR, "-w", "-fwrapv", "-DRACY", *openmp, level, "-o", "program",
         source, "-lm")
     run("./program", SPBAGS_TRACE="run.trace", SPBAGS_REPEATS="1", SPBAGS_MAX_BYTES="100000000")
-    names, found, codes, places = Globals(), set(), {}, answers.places_of("run.trace.places")
+    names, found, codes, places = Globals(), set(), {}, checker_answers.places_of("run.trace.places")
     with open("run.trace", encoding="ascii") as records:
         next(records)
         for place, record in enumerate(records, 1):

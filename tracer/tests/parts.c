@@ -112,7 +112,9 @@ static void read_out(void) {
     begin_reading();
 }
 
-static uint64_t location_of_block(unsigned block) { return 2 * (memory_granule(block * BLOCK_GRANULES) >> granules_shift); }
+static uint64_t location_of_block(unsigned block) {
+    return 2 * (memory_granule(block * BLOCK_GRANULES) >> granules_shift);
+}
 
 /* They go out in the order of their first touch, with what was read before it was written and what was written, whether
    that is noted quickly or not; and those beyond the limit are in another part. */
@@ -187,7 +189,8 @@ static void strand_left_out(void) {
                 left[gone / BLOCK_GRANULES] &= ~blocks_granules_from(gone % BLOCK_GRANULES, 1);
         }
         for (unsigned block = 0; block < 3; block++)
-            DEMAND(blocks_granules_with(blocks_at(memory_granule(block * BLOCK_GRANULES)).done, BLOCK_WROTE) == left[block]);
+            DEMAND(blocks_granules_with(blocks_at(memory_granule(block * BLOCK_GRANULES)).done, BLOCK_WROTE) ==
+                   left[block]);
     }
     uint64_t parts = course.parts;
     for (unsigned block = 0; block < 100; block++) {
@@ -280,7 +283,8 @@ void recent_leave_out_dying(uintptr_t before) {
 
 static bool has_ended(uint64_t number) {
     const struct ended *ended = locations_place_of_ended(number);
-    bool is_at_hand = number / STEPS_GROUP_NUMBERS == ended->group && (ended->members >> number % STEPS_GROUP_NUMBERS & 1) != 0;
+    bool is_at_hand =
+        number / STEPS_GROUP_NUMBERS == ended->group && (ended->members >> number % STEPS_GROUP_NUMBERS & 1) != 0;
     return is_ended[number] || is_at_hand;
 }
 
@@ -503,12 +507,12 @@ int main(int count, char **words) {
         void (*run)(void);
     } parts[] = {{"strand_blocks", strand_blocks},     {"strand_locations", strand_locations},
                  {"marks_repeats", marks_repeats},     {"marks_own", marks_own},
-                 {"marks_units", marks_granules},         {"stack_numbers", stack_numbers},
+                 {"marks_units", marks_granules},      {"stack_numbers", stack_numbers},
                  {"heap_blocks", heap_blocks},         {"heap_zero", heap_zero},
                  {"strand_left_out", strand_left_out}, {"stack_window", stack_window},
                  {"heap_sizes", heap_sizes},           {"heap_moves", heap_moves},
                  {"formats_print", formats_print},     {"formats_scan", formats_scan},
-                 {"formats_narrow", formats_partial},   {"packing", packing}};
+                 {"formats_narrow", formats_partial},  {"packing", packing}};
     granules_shift = GRANULE_USUAL_SHIFT;
     granules_mask = 3;
     for (size_t at = 0; at < sizeof parts / sizeof *parts; at++)

@@ -22,7 +22,7 @@ HERE = os.path.dirname(os.path.realpath(__file__))
 TRACER = os.path.dirname(HERE)
 sys.dont_write_bytecode = True
 sys.path.insert(0, TRACER)
-import answers
+from report import checker_answers
 from cases import DETECTOR, INSIDE
 SPBAGS = os.path.realpath(os.environ.get("SPBAGS", os.path.join(TRACER, "..", "spbags")))
 # Only gcc traces reducers.
@@ -468,7 +468,7 @@ class Batch:
             self.differ.add(number)
         racy = {line.split()[1] for line in report.splitlines()[1:]}
         codes = {}
-        places = answers.places_of(trace + ".places")
+        places = checker_answers.places_of(trace + ".places")
         with open(trace, encoding="ascii") as records:
             next(records)
             for place, record in enumerate(records, 1):

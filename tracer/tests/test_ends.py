@@ -90,7 +90,7 @@ class OutputsTest(TraceTest):
 
     def test_settings(self):
         with self.subTest("help"):
-            rows = [self.run_command(os.path.join(TRACER, "settings.py"), *words).out for words in ((), ("openmp",))]
+            rows = [self.run_command(os.path.join(TRACER, "settings"), *words).out for words in ((), ("openmp",))]
             wanted = re.findall(r"^\| `(SPBAGS_\w+)`.*\| (.*) \|$", "".join(rows), re.MULTILINE)
             said = re.findall("^(SPBAGS_\\w+): (.*)$", self.run_command("./many", SPBAGS_HELP="1").out, re.MULTILINE)
             self.assertEqual(wanted, said)

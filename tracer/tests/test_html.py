@@ -13,10 +13,10 @@ sys.dont_write_bytecode = True
 import browser
 import cases
 from cases import SPBAGS_CC, SPBAGS_RUN, TESTS, TRACER, TracerTest
-import html_report
-import pairs
-import report
-from source import Position
+from report import html_page
+from report import pairs
+from report import result
+from report.source_lines import Position
 
 # The name of a file and the text of a program that would do something in a page.
 EVIL = "<script>alert(1)<!--.c"
@@ -35,9 +35,9 @@ int main(int count, char **words) {
 }
 """
 # The folders of the tracer that the page doesn't need.
-OTHER_FOLDERS = ("hooks", "include", "examples", "measure", "out", "plugins", "tests", "__pycache__")
+OTHER_FOLDERS = ("compile", "hooks", "include", "examples", "measure", "out", "plugins", "tests", "__pycache__")
 PHONE, DESK = (390, 800), (1280, 900)
-NO_PAIRS = report.Count(0, 0)
+NO_PAIRS = result.Count(0, 0)
 
 
 def report_of(count):
@@ -52,7 +52,7 @@ def report_of(count):
         sides = [pairs.Side("write", False, [*way, pairs.Frame("call", Position(file, 9, "main"), 1)]) for way in ways]
         found.append(pairs.Pair(1, number, sides, variable, None, None))
     ended = {"status": 0, "signal": None, "complete": True}
-    return report.Report(["./run"], 4, ended, 1, 2, count, found, NO_PAIRS, NO_PAIRS, NO_PAIRS, 0, [], [], [], [])
+    return result.Report(["./run"], 4, ended, 1, 2, count, found, NO_PAIRS, NO_PAIRS, NO_PAIRS, 0, [], [], [], [])
 
 
 class EvilTest(TracerTest):
@@ -158,7 +158,7 @@ class BrowserTest(EvilTest):
 
     def test_many(self):
         """10,000 pairs open in less than two seconds of the processor's time."""
-        self.write("page.html", html_report.page_of(report_of(10000), 1))
+        self.write("page.html", html_page.page_of(report_of(10000), 1))
         self.browser.show_as(*DESK, "light")
         self.browser.open("page.html")
         self.assertEqual(10000, self.browser.value("document.querySelectorAll('td:first-child').length"))

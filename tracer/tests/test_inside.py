@@ -9,7 +9,7 @@ import sys
 sys.dont_write_bytecode = True
 import cases
 from cases import CC, TESTS, TRACER, TracerTest, needs_detector, size_of
-import answers
+from report import checker_answers
 
 BEFORE = ", and the report has what came before"
 FAULT, ABORT, TRAP, TERMINATE, KILL = (-number for number in (signal.SIGSEGV, signal.SIGABRT, signal.SIGILL,
@@ -258,7 +258,7 @@ class OutputsTest(InsideTest):
     def sites_of(self, program, output, **settings):
         """The code of each record, and whether it is a narrow access."""
         self.run_command("./" + program, SPBAGS_PLACES="run.places", **{output: "/dev/null"}, **settings)
-        places = answers.places_of("run.places")
+        places = checker_answers.places_of("run.places")
         return [places.site(place)[:2] for place in range(1, places.count + 1)]
 
     def test_sites(self):

@@ -10,7 +10,7 @@ import sys
 
 sys.dont_write_bytecode = True
 import cases
-import library
+from compile import library
 from cases import INSIDE, LEVEL, SPBAGS_CC, TESTS, TRACER, TracerTest, by_call, race_of
 
 LIBRARY, VECTORS = (os.path.join(TESTS, name + ".c") for name in ("library", "vectors"))
@@ -49,7 +49,7 @@ class LibraryTest(CallsTest):
 
     def test_cases(self):
         """There is one for each function."""
-        names = self.succeeds(f"{TRACER}/library.py", "names").out.split()
+        names = self.succeeds(f"{TRACER}/compile/library.py", "names").out.split()
         called = set(self.succeeds("nm", "-u", "library.o").out.split())
         self.assertTrue(names)
         self.assertEqual([], [name for name in names if name not in called and not WITHOUT_A_CASE.fullmatch(name)])
@@ -135,12 +135,12 @@ class PagesTest(TracerTest):
         return subprocess.run([f"{TRACER}/{script}", *words], stdout=subprocess.PIPE, text=True, check=True).stdout
 
     def test_tables(self):
-        self.assertEqual(self.said_by("library.py"), self.read(f"{TRACER}/LIBRARY.md"))
+        self.assertEqual(self.said_by("compile/library.py"), self.read(f"{TRACER}/LIBRARY.md"))
 
     def test_settings(self):
         for page, words in (("README.md", ()), ("OPENMP.md", ("openmp",))):
             with self.subTest(page):
-                rows = self.said_by("settings.py", *words).splitlines()
+                rows = self.said_by("settings", *words).splitlines()
                 self.assertEqual([], [row for row in rows if row not in self.read(f"{TRACER}/{page}").splitlines()])
 
 

@@ -8,7 +8,7 @@ import sys
 
 sys.dont_write_bytecode = True
 import cases
-import answers
+from report import checker_answers
 from cases import CC, LEVEL, SPBAGS_CC, SPBAGS_RUN, TESTS, Example, TracerTest, line_of, lines_of
 
 WAYS, TEAMS = (os.path.join(TESTS, name + ".c") for name in ("openmp", "teams"))
@@ -92,7 +92,7 @@ class TraceTest(OpenMPTest):
             self.succeeds("bash", "-c", "./ways outlives 3>said 4>run.places", SPBAGS_TRACE="run.trace",
                           SPBAGS_SAYS="fd:3", SPBAGS_PLACES="fd:4")
             self.assertIn("\nincomplete: ", "\n" + self.read("said"))
-            self.assertEqual([], answers.places_of("run.places").notes)
+            self.assertEqual([], checker_answers.places_of("run.places").notes)
 
     def test_statuses(self):
         way = "left_by_groups"

@@ -16,8 +16,8 @@ sys.dont_write_bytecode = True
 import cases
 from cases import (DETECTOR, INSIDE, SPBAGS_CC, SPBAGS_LINES, SPBAGS_RUN, TESTS, TRACER, TracerTest, last_line,
                    lines_of_tags)
-import answers
-import source
+from report import checker_answers
+from report import source_lines
 
 SOURCE = os.path.join(TESTS, "run.c")
 TAGS = lines_of_tags(SOURCE)
@@ -242,9 +242,9 @@ class ReportTest(RunTest):
         said = self.spbags("explain", "run.trace", str(location)).splitlines()
         places = [int(said[number].split()[at]) for number, at in ((2, 2), (3, 2), (4, 1))]
         self.assertEqual("first spawn", said[2].rpartition(" ")[0][:11])
-        codes = answers.codes_of(answers.places_of("run.trace.places"), places)
-        found = source.positions_of(program, codes.values())
-        positions = [source.leading(found[codes[place]]) for place in places]
+        codes = checker_answers.codes_of(checker_answers.places_of("run.trace.places"), places)
+        found = source_lines.positions_of(program, codes.values())
+        positions = [source_lines.leading(found[codes[place]]) for place in places]
         return [position.line if position.function == function else None for position in positions]
 
     def test_most(self):

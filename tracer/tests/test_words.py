@@ -10,12 +10,12 @@ import unittest.mock
 
 sys.dont_write_bytecode = True
 import cases
-import expressions
-import functions
-import pairs
-import rows
-import source
-import text
+from report import expressions
+from report import function_names
+from report import pairs
+from report import stack_rows
+from report import source_lines
+from report import text
 from cases import SPBAGS_RUN, TESTS, TracerTest, last_line
 
 MISSING = ["private", "reduction", "atomic", "critical"]
@@ -215,9 +215,9 @@ class TextTest(WordsTest):
 
     def test_innermost(self):
         """Of a stack in the library's headers the function that does the access has a row, and so has the outermost."""
-        at = [source.Position(*words) for words in (("/usr/include/c++/store.h", 3, "store"), ("/usr/include/c++/pass.h", 5, "pass"),
+        at = [source_lines.Position(*words) for words in (("/usr/include/c++/store.h", 3, "store"), ("/usr/include/c++/pass.h", 5, "pass"),
                                                     ("/usr/include/c++/sort.h", 7, "sort"), ("own.cpp", 9, "main"))]
-        shown = rows.rows([pairs.Frame(role, position, 1) for role, position in zip(("header", *["call"] * 3), at)])
+        shown = stack_rows.rows([pairs.Frame(role, position, 1) for role, position in zip(("header", *["call"] * 3), at)])
         self.assertEqual([("store.h:3", "store", ""), ("sort.h:7", "sort", "and 1 more"), ("own.cpp:9", "main", "")],
                          [(row.place, row.function, row.behind) for row in shown])
         codes = dict(enumerate(at))
@@ -228,7 +228,7 @@ class TextTest(WordsTest):
     def test_cycles(self):
         """Rows that come again and again in turn are shown once, with their number."""
         lines = [*[1, 2, 3, 2, 3, 2, 3], *[4, 4, 5, 4, 4, 5], *[6, 6], 7]
-        shown = rows.rows([pairs.Frame("call", source.Position("own.c", line, "f"), 1) for line in lines])
+        shown = stack_rows.rows([pairs.Frame("call", source_lines.Position("own.c", line, "f"), 1) for line in lines])
         self.assertEqual([("own.c:1", ""), ("own.c:2", ""), ("own.c:3", "these 2 rows 3 times"), ("own.c:4", "2 times"),
                           ("own.c:5", "these 2 rows 2 times"), ("own.c:6", "2 times"), ("own.c:7", "")],
                          [(row.place, row.behind) for row in shown])
@@ -247,8 +247,8 @@ class TextTest(WordsTest):
                 (5, "std::operator<< <std::char_traits<char> >(char)", "std::operator<< <..>(char)"),
                 (5, "bool operator<(Key<int> const&)", "bool operator<(Key<int> const&)")):
             with self.subTest(function, line=line):
-                self.assertEqual(wanted, functions.function_of(source.Position("own.cpp", line, function)))
-        self.assertEqual("lambda in main", functions.function_of(source.Position("none.cpp", 5, gcc)))
+                self.assertEqual(wanted, function_names.function_of(source_lines.Position("own.cpp", line, function)))
+        self.assertEqual("lambda in main", function_names.function_of(source_lines.Position("none.cpp", 5, gcc)))
 
     def test_source_root(self):
         """Files are named from the folder of the run, or from another one."""

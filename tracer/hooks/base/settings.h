@@ -1,5 +1,5 @@
 /* The settings: environment variables, each with what it may be, what it is by default, and one line of help. With
-   SPBAGS_HELP=1 a program prints them, and the pages' tables are made of this file by settings.py. */
+   SPBAGS_HELP=1 a program prints them, and the pages' tables are made of this file by tracer/settings. */
 #ifndef SPBAGS_BASE_SETTINGS_H
 #define SPBAGS_BASE_SETTINGS_H
 

@@ -1,6 +1,6 @@
-/* Lines about the run. A user reads them on standard error, as `spbags: TEXT`. For spbags-run each is a record, `NAME
-   [WORD ..]: TEXT`, in the file that SPBAGS_SAYS names: it goes by the name and the words, which said.py lists, and the
-   text is for people alone. */
+/* Lines about the run. A user reads them on standard error, as `spbags: TEXT`. For spbags-run each is a record,
+   `NAME [WORD ..]: TEXT`, in the file that SPBAGS_SAYS names: it goes by the name and the words, which messages.py
+   lists, and the text is for people alone. */
 #ifndef SPBAGS_BASE_TELL_H
 #define SPBAGS_BASE_TELL_H
 

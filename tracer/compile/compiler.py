@@ -1,0 +1,109 @@
+"""The compiler by which a source is compiled, and its options and plugin."""
+import functools
+import os
+import sys
+
+import cache
+from compile.options import ASSEMBLY, IS_CPLUSPLUS, LANGUAGE, fail, say
+from compile.processes import answer, run
+from installation import HERE
+
+# The headers of oneTBB have two names, tbb/NAME and oneapi/tbb/NAME.
+INCLUDES = [f"-I{HERE}/include", f"-I{HERE}/include/oneapi"]
+# addr2line of binutils 2.40 takes some files of DWARF 5 for others.
+PLAIN = ["-g", "-gdwarf-4", "-fno-inline", "-fno-omit-frame-pointer", "-fno-optimize-sibling-calls", "-fno-builtin",
+         "-fno-lto"]
+# Some processors are slow where a branch crosses such a boundary.
+ALIGNED, ALIGNED_CLANG = "-Wa,-mbranches-within-32B-boundaries", "-mbranches-within-32B-boundaries"
+# Each variable keeps memory of its own, and arguments on the stack are pushed for each call. What the plugin puts there
+# calls hooks, which gcc doesn't know: so nothing is kept below the stack's end, and that moves right before a call alone.
+TRACED_GCC = [*PLAIN, "-fstack-reuse=none", "-mno-accumulate-outgoing-args", "-mno-red-zone",
+              "-fno-combine-stack-adjustments", "-fno-defer-pop"]
+TRACED_CLANG = [*PLAIN, "-mllvm", "-no-stack-coloring", "-Qunused-arguments"]
+COMPILERS = [["g++"], ["clang++"]] if IS_CPLUSPLUS else [["gcc"], ["clang"]]
+# The tests, as macros of the assembler.
+CHECKS = os.path.join(HERE, "hooks", "inline_checks.s")
+# What each source asks for, and what the hooks define. No tool takes it out of an object.
+MARK = "__spbags_traced"
+MARKED = f'__asm__(".pushsection .spbags,\\"\\",@progbits\\n\\t.quad {MARK}\\n\\t.popsection");\n'
+
+
+class Compiler:
+    def __init__(self, words, ahead_by=None):
+        """The compiler that is chosen, or the one by whose command hooks are compiled ahead of all links."""
+        self.words, self.kept = words, cache.Kept(say, fail, bool(ahead_by))
+        self.command = ahead_by or named_compiler() or COMPILERS[0]
+        if self.command[0].endswith("++") != IS_CPLUSPLUS:
+            fail(f"{self.command[0]}: expected a compiler for {'C++' if IS_CPLUSPLUS else 'C'}")
+
+    @functools.cached_property
+    def about(self):
+        """What it says of itself."""
+        try:
+            return answer(*self.command, "--version")[1]
+        except OSError as error:
+            return fail(f"{self.command[0]}: {error.strerror}")
+
+    @property
+    def is_clang(self):
+        return "clang" in self.about
+
+    @property
+    def aligned(self):
+        return ALIGNED_CLANG if self.is_clang else ALIGNED
+
+    def preprocess(self, source, text_name, object_name):
+        dependencies = list(self.words.dependencies)
+        if dependencies and object_name and "-MF" not in dependencies:
+            dependencies += ["-MF", os.path.splitext(object_name)[0] + ".d"]
+        if dependencies and object_name and "-MT" not in dependencies and "-MQ" not in dependencies:
+            dependencies += ["-MT", object_name]
+        header = os.path.join(HERE, "spbags_cilk.h")
+        run(*self.command, "-E", *INCLUDES, "-include", header, "-D__cilk=300",
+            *self.words.compiling, *self.words.openmp, self.words.level, "-U_FORTIFY_SOURCE", *dependencies,
+            *(["-x", LANGUAGE] if self.words.named_language else []), source, "-o", text_name)
+
+    def compile(self, source, object_name, folder):
+        """Rewrites a source and compiles it. One in the assembler's language stays as it is."""
+        if source.endswith(ASSEMBLY):
+            if self.words.ends_with in (None, "-c"):
+                run(*self.command, *self.words.compiling, "-c", source, "-o", object_name)
+            return
+        from compile import steps
+        text_name = os.path.join(folder, os.path.basename(source) + (".ii" if IS_CPLUSPLUS else ".i"))
+        self.preprocess(source, text_name, object_name)
+        with open(text_name, encoding="utf-8", errors="surrogateescape") as file:
+            text, openmp, faults = steps.rewritten(file.read(), self.words, self.is_clang)
+        if faults:
+            print("\n".join(faults), file=sys.stderr)
+            sys.exit(1)
+        with open(text_name, "w", encoding="utf-8", errors="surrogateescape") as file:
+            file.write(text + MARKED)
+        self.compile_rewritten(text_name, openmp, self.words.ends_with or "-c", object_name, folder)
+
+    def compile_rewritten(self, text_name, openmp, ends_with, to, folder):
+        """Compiles a rewritten source into what ends here. The plugin puts the hooks into its code."""
+        from compile import plugin
+        command = [*self.command, *self.words.compiling, *openmp, self.words.level,
+                   *(TRACED_CLANG if self.is_clang else TRACED_GCC)]
+        is_compiled = ends_with != "-fsyntax-only"
+        checks = CHECKS if self.words.inline_checks and is_compiled else None
+        command += plugin.options(self.plugin(folder), self.is_clang, checks)
+        command += [self.aligned, "-Wa,--no-warn"] if checks else []
+        run(*command, ends_with, text_name, *(["-o", to] if is_compiled else []))
+
+    def plugin(self, folder):
+        """The plugin for this compiler. A compiler of C++ has that of the compiler of C beside it."""
+        from compile import plugin
+        return self.kept.file("plugin_{}.so", plugin.made_of(self.about.replace("g++", "gcc"), self.is_clang),
+                              lambda: plugin.build(self.command, self.is_clang, folder, fail),
+                              f"building the plugin for {self.command[0]}, in some 20 s of processor time")
+
+
+def named_compiler():
+    """The command that the environment names, if any. A Makefile hands its CC on, which may be this very program."""
+    for variable in ("SPBAGS_CXX", "CXX") if IS_CPLUSPLUS else ("SPBAGS_CC", "CC"):
+        command = os.environ.get(variable, "").split()
+        if command and os.path.basename(command[0]) not in ("spbags-cc", "spbags-c++"):
+            return command
+    return None

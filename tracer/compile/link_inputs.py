@@ -1,0 +1,246 @@
+"""What goes into a link: which of its files spbags-cc compiled, and which functions nothing is known of."""
+import functools
+import os
+import re
+from collections import namedtuple
+
+from compile.compiler import MARK
+from compile.processes import answer, run
+from compile.symbols import CODE, UNDEFINED, WEAK_CODE, members_of, opened, symbols_of
+
+# The libraries of the C compiler itself.
+SYSTEM = re.compile(r"(?:lib(?:c|m|mvec|pthread|dl|rt|util|resolv|crypt|nsl|anl|stdc\+\+|stdc\+\+fs|supc\+\+|gcc|"
+                    r"gcc_s|gcc_eh|gcov|ssp|atomic|quadmath|c_nonshared|pthread_nonshared|ssp_nonshared)|ld-linux-x86-64)[-.0-9]*\.(?:so|a)\b.*|crt\w+\.o|[gmSr]*crt1\.o")
+# What these give out is code that nothing is known of either.
+GIVES_CODE = {"dlsym", "dlvsym"}
+PARALLEL = re.compile("GOMP_|GOACC_|__kmpc_")
+OPENMP = re.compile("GOMP_|__kmpc_|omp_|__spbags_thread_num$")
+FUNCTIONS = CODE + WEAK_CODE
+OBJECT, SHARED = 1, 3
+# What the names of the compiler's sections begin with.
+LTO = b".gnu.lto_"
+MEMBER = re.compile(r"\((.+)\)([^()]+)")
+
+# A function, its name in the source, the file that has it, and whether each call counts; the others count where something
+# may run beside them.
+Unknown = namedtuple("Unknown", "name shown library always")
+
+
+class Part:
+    """An object of the link, by itself or as a member of an archive, or a shared library."""
+
+    def __init__(self, file, member, is_shared, place):
+        self.file, self.member, self.is_shared, self.place = file, member, is_shared, place
+        self.defined, self.wanted = {}, set()
+        self.is_system = False
+
+    def is_traced(self):
+        return MARK in self.wanted
+
+    def name(self):
+        return f"{self.file}({self.member})" if self.member else self.file
+
+    def title(self):
+        """Its name in a report: that by which a program finds a library."""
+        said = answer("readelf", "-d", self.file)[1] if self.is_shared else ""
+        named = re.search(r"\(SONAME\).*\[(.*)\]", said)
+        return named[1] if named else os.path.basename(self.file)
+
+    def is_for_lto(self):
+        """Whether the linker is to compile it."""
+        return any(data.find(LTO) >= 0 for data in self.texts())
+
+    def texts(self):
+        """The bytes of the object; an archive may have several members of this name."""
+        if not self.member:
+            return [opened(self.file)]
+        return [data for name, data in members_of(self.file) if name == self.member]
+
+    def add(self, name, kind):
+        if kind == UNDEFINED:
+            self.wanted.add(name)
+        else:
+            self.defined[name] = kind
+
+    def functions(self):
+        return {name for name, kind in self.defined.items() if kind in FUNCTIONS}
+
+    def is_taken_for(self, name, other):
+        """Whether the linker takes this function and not the other's, if it takes one: the first, or the one that isn't
+        weak."""
+        kinds = self.defined[name] + other.defined[name]
+        return kinds == CODE + WEAK_CODE or kinds == 2 * WEAK_CODE and self.place < other.place
+
+
+def kind_of_elf(file):
+    """OBJECT, SHARED, or None for what is no file of that form."""
+    try:
+        with open(file, "rb") as read:
+            head = read.read(18)
+    except OSError:
+        return None
+    return head[16] if head[:4] == b"\x7fELF" and len(head) == 18 and head[16] in (OBJECT, SHARED) else None
+
+
+def parts_of(link, folder):
+    """What the linker takes where it links by this command, or None where it can't: the link itself will say why."""
+    status, said = answer(*link, "-Wl,-t,-t,-S,--unresolved-symbols=ignore-all", "-o", os.path.join(folder, "looked"))
+    if status != 0:
+        return None
+    parts = {}
+    for line in said.splitlines():
+        member = MEMBER.fullmatch(line)
+        key = (member[1], member[2]) if member else (line, None)
+        kind = OBJECT if member else kind_of_elf(line)
+        if kind:
+            parts.setdefault(key, Part(*key, kind == SHARED, len(parts)))
+    read_symbols(parts)
+    for part in parts.values():
+        part.is_system = bool(SYSTEM.fullmatch(os.path.basename(part.file))) and is_in(part.file, folders_of(link[0]))
+    return list(parts.values())
+
+
+@functools.lru_cache
+def folders_of(compiler):
+    """Where the compiler's own libraries are."""
+    _, said = answer(compiler, "-print-search-dirs")
+    found = re.search("^libraries: =?(.*)$", said, re.MULTILINE)
+    return [os.path.realpath(name) for name in found[1].split(":")] if found else []
+
+
+def is_in(file, folders):
+    return os.path.dirname(os.path.realpath(file)) in folders or os.path.realpath(os.path.dirname(file)) in folders
+
+
+def names_of(object_name):
+    """What an object defines."""
+    return {name for name, kind in symbols_of(opened(object_name)) if kind != UNDEFINED}
+
+
+def read_symbols(parts):
+    for file in dict.fromkeys(file for file, _ in parts):
+        is_object = (file, None) in parts
+        for member, data in [(None, opened(file))] if is_object else members_of(file):
+            part = parts.get((file, member))
+            for name, kind in symbols_of(data, part.is_shared) if part else ():
+                part.add(name, kind)
+
+
+class Linked:
+    """The files of a link."""
+
+    def __init__(self, parts):
+        objects = [part for part in parts if not part.is_shared]
+        self.traced = [part for part in objects if part.is_traced()]
+        self.others = [part for part in objects if not part.is_traced()]
+        self.libraries = [part for part in parts if part.is_shared]
+        self.own = {name for part in objects for name in part.defined}
+
+    def asks_for_openmp(self):
+        return any(OPENMP.match(name) for part in self.traced for name in part.wanted - self.own)
+
+    def faults(self, wrapped):
+        """A line for each file that can't be traced: code that isn't seen where it would be taken for what is."""
+        return [line for part in self.others if not part.is_system for line in self.faults_of(part, wrapped)]
+
+    def faults_of(self, part, wrapped):
+        parallel = next((name for name in sorted(part.wanted) if PARALLEL.match(name)), None)
+        if any(name.startswith("__tsan_") for name in part.wanted):
+            yield f"{part.name()}: an older spbags-cc, or another compiler with -fsanitize=thread, compiled this: " \
+                  "compile it again with spbags-cc"
+        elif parallel:
+            yield f"{part.name()}: spbags-cc didn't compile this, and it has parallel code ({parallel}): compile it " \
+                  "with spbags-cc"
+        elif part.is_for_lto():
+            yield f"{part.name()}: spbags-cc didn't compile this, and what it does isn't known before the link: " \
+                  "compile it with spbags-cc, or without -flto"
+        else:
+            yield from self.doubles(part, wrapped)
+
+    def doubles(self, part, wrapped):
+        """Functions that this file has and others take for their own, or that would be taken for the library's."""
+        for name in sorted(wrapped & part.functions()):
+            yield f"{part.name()}: spbags-cc didn't compile this, and its {name} would be taken for the C library's: " \
+                  "compile it with spbags-cc"
+        for other in self.traced:
+            taken = [name for name in part.functions() & other.functions() if part.is_taken_for(name, other)]
+            if taken:
+                yield f"{part.name()}: spbags-cc didn't compile this, and its {min(taken)} is used in place of that of " \
+                      f"{other.name()}: compile it with spbags-cc, or put it after the other one"
+
+    def unknown(self, known, hooks):
+        """The functions that traced files call and nothing is known of. KNOWN are those of the system's libraries, and
+        HOOKS those that the hooks stand in for."""
+        wanted = {name for part in self.traced for name in part.wanted if "__wrap_" + name not in self.own} | {"main"}
+        wanted -= (hooks - GIVES_CODE).union(*(part.defined for part in self.traced))
+        having = {}
+        for part in [*self.others, *self.libraries]:
+            for name in wanted & part.defined.keys():
+                having.setdefault(name, part)
+        found = [(name, part) for name, part in sorted(having.items())
+                 if part.defined[name] in FUNCTIONS and not (part.is_system and name in known)]
+        shown = demangled([name for name, _ in found])
+        return [Unknown(name, text, part.title(), not part.is_system or name in GIVES_CODE)
+                for (name, part), text in zip(found, shown)]
+
+    def virtual(self):
+        """The classes of virtual functions that nothing is known of, which a program may call without a name."""
+        asked = {name for part in self.traced for name in part.wanted if name.startswith("_ZTV")}
+        tables = {name for part in [*self.others, *self.libraries] if not part.is_system
+                  for name in asked & part.defined.keys()}
+        return [name.removeprefix("vtable for ") for name in demangled(sorted(tables))]
+
+
+def demangled(names):
+    if not names:
+        return []
+    return answer("c++filt", *names)[1].splitlines()
+
+
+def wrapping(found, names, folder):
+    """The words that have the hooks called in place of these functions of the library. One of them that the program has
+    itself isn't the library's, so it is called itself, by the hooks too. What else the program calls has to be there, as
+    without hooks, which alone don't want it."""
+    own = {name for part in found.traced for name in part.defined}
+    called = {name for part in [*found.traced, *found.others] if not part.is_system for name in part.wanted} - own
+    text, made = os.path.join(folder, "called.s"), os.path.join(folder, "called.o")
+    with open(text, "w", encoding="utf-8", errors="surrogateescape") as file:
+        file.writelines(f"\t.globl __real_{name}\n" for name in names if name in called)
+        file.write('\t.section .note.GNU-stack,"",@progbits\n')
+    run("as", "-o", made, text)
+    return [made, *[f"-Wl,--defsym=__real_{name}={name}" if name in own else f"-Wl,--wrap={name}" for name in names]]
+
+
+STUB = """\
+\t.globl __wrap_{name}
+\t.type __wrap_{name}, @function
+__wrap_{name}:
+\t.cfi_startproc
+\tpushq %rdi
+\t.cfi_adjust_cfa_offset 8
+\tleaq __spbags_unknown+{offset}(%rip), %rdi
+\tcall __spbags_count_call
+\tpopq %rdi
+\t.cfi_adjust_cfa_offset -8
+\tjmp __real_{name}
+\t.cfi_endproc
+"""
+
+
+def stubs(unknown, virtual):
+    """In the assembler's language: what is called in place of each, which counts the call and goes on to it, so that
+    the function finds its words and returns as without this; and the table of all, which the hooks read. Behind them
+    stand the classes of virtual functions."""
+    size = 40
+    text = [STUB.format(name=function.name, offset=at * size) for at, function in enumerate(unknown)]
+    table = [*unknown, *(Unknown("", name, "", False) for name in virtual)]
+    rows = [f"\t.quad .Lname{at}, .Lshown{at}, .Llibrary{at}, {int(row.always)}, 0\n" for at, row in enumerate(table)]
+    names = [f'.Lname{at}: .string "{row.name}"\n.Lshown{at}: .string "{quoted(row.shown)}"\n'
+             f'.Llibrary{at}: .string "{quoted(row.library)}"\n' for at, row in enumerate(table)]
+    return "".join(["\t.text\n", *text, "\t.data\n\t.balign 8\n\t.globl __spbags_unknown, __spbags_unknown_end\n",
+                    "__spbags_unknown:\n", *rows, "__spbags_unknown_end:\n\t.section .rodata\n", *names,
+                    '\t.section .note.GNU-stack,"",@progbits\n'])
+
+
+def quoted(text):
+    return text.replace("\\", "\\\\").replace('"', '\\"')

@@ -1,0 +1,291 @@
+"""Rewrites the OpenMP of a preprocessed source: every loop gets the schedule `dynamic`, so that the runtime is asked for
+each iteration. What can't be traced is refused, with its file and line."""
+import functools
+import re
+
+from compile.line_markers import Files, has_raw_strings
+from installation import SYSTEM
+from tokens import blanked
+
+MARKER = re.compile(r'#(?:line)? *([0-9]+) *("(?:\\.|[^"\\])*")?')
+PRAGMA = re.compile(r"[ \t]*#[ \t]*pragma[ \t]+omp\b(.*)")
+PRAGMAS = re.compile("^" + PRAGMA.pattern, re.MULTILINE)
+SECTION = re.compile(r"[ \t]*#[ \t]*pragma[ \t]+omp[ \t]+section\b")
+ATTRIBUTE = re.compile(r"\[\[\s*(?:using\s+)?omp\b")
+MEANT = re.compile(PRAGMA.pattern.removeprefix(r"[ \t]*") + "|" + ATTRIBUTE.pattern)
+WORD = re.compile(r"[A-Za-z_]\w*")
+PIECE = re.compile(r"\"(?:\\.|[^\"\\\n])*\"|'(?:\\.|[^'\\\n])*'|[(){}\[\];]|[A-Za-z_]\w*|.", re.DOTALL)
+# Of a loop: what stands before its first semicolon, and what stands between this one and the second.
+HEADER = re.compile(r"\bfor\s*\(([^;]*);([^;]*);")
+STATIC = re.compile(r"schedule\s*\((?:[\w\s,]*:)?\s*static\b")
+# In so many letters the loops of one directive stand.
+LOOPS_LENGTH = 2000
+CLOSING = {"(": ")", "[": "]", "{": "}"}
+
+# The words that a directive begins with; those that have more here can't be traced, and are called so.
+DIRECTIVES = {
+    **dict.fromkeys(("parallel", "for", "simd", "sections", "single", "master", "masked", "task", "taskloop",
+                     "taskwait", "section", "ordered", "declare", "begin", "end", "cancel", "cancellation", "depobj")),
+    "target": "target", "teams": "teams", "distribute": "distribute", "loop": "loop (write `for')",
+    "allocate": "allocate", "allocators": "allocate", "scan": "scan",
+    "metadirective": "metadirective", "dispatch": "dispatch", "interop": "interop"}
+# The number of a body's kind in the hooks, by the last word of its directive.
+BODIES = {"parallel": 0, "single": 1, "master": 2, "masked": 2}
+SIMD_BODY, SECTION_BODY, LAST_BODY, SCOPE_BODY, SCOPE_NOWAIT_BODY, SCOPED_BODY = range(3, 9)
+MAKES_PARALLEL = {"parallel", "task", "taskloop"}
+PRIVATE = {"private", "firstprivate", "lastprivate", "reduction"}
+REFUSED_CLAUSES = {"detach": "detach", "allocate": "allocate"}
+
+
+def clauses_of(text):
+    """The clauses of a directive, each with its name, its text, and where both stand in the whole."""
+    found, at = [], 0
+    while True:
+        word = WORD.search(text, at)
+        if not word:
+            return found
+        at = end_of_brackets(text, word.end()) if text[word.end():].lstrip().startswith("(") else word.end()
+        found.append((word.group(), word.start(), at))
+
+
+def end_of_brackets(text, start):
+    """The end of what the first bracket from here on opens."""
+    depth = 0
+    for piece in PIECE.finditer(text, start):
+        depth += piece.group() in CLOSING
+        if piece.group() in CLOSING.values():
+            depth -= 1
+            if depth == 0:
+                return piece.end()
+    return len(text)
+
+
+def leading(clauses):
+    """The words of the directive itself."""
+    names = []
+    for name, _, _ in clauses:
+        if name not in DIRECTIVES:
+            break
+        names.append(name)
+    return names
+
+
+def refusal(text):
+    """What can't be traced in this directive, or None."""
+    clauses = clauses_of(text)
+    names = leading(clauses)
+    for name in names:
+        if DIRECTIVES[name]:
+            return DIRECTIVES[name]
+    if names == ["ordered"] and {"depend", "doacross"} & {name for name, _, _ in clauses}:
+        return "depend"
+    for name, start, end in clauses[len(names):]:
+        if name in REFUSED_CLAUSES:
+            return REFUSED_CLAUSES[name]
+        if re.match(r"reduction\s*\(\s*inscan\b", text[start:end]):
+            return "scan"
+    return None
+
+
+def without(text, clause):
+    """A directive without a clause, and that clause."""
+    for name, start, end in clauses_of(text):
+        if name == clause:
+            return text[:start] + text[end:].lstrip(" ,"), text[start:end]
+    return text, ""
+
+
+def filtered(text):
+    """A directive that says to the hooks which thread a masked region is for."""
+    for name, start, end in clauses_of(text):
+        if name == "filter":
+            number = text[start:end].partition("(")[2][:-1]
+            return f"{text[:start]}filter(__spbags_filter({number})){text[end:]}"
+    return text
+
+
+def rescheduled(text):
+    """A loop's directive with the schedule that the hooks need, whose size says what clauses it had."""
+    names = {name for name, _, _ in clauses_of(text)}
+    text, schedule = without(text, "schedule")
+    size = 1 + 2 * bool(STATIC.match(schedule)) + 4 * ("nowait" in names) + 8 * ("lastprivate" in names)
+    return text.rstrip(" ,") + f" schedule(dynamic,{size + 16 * bool(PRIVATE & names)})"
+
+
+def sums_in_scope(text):
+    """Whether a directive is a scope whose threads combine variables of their own behind it."""
+    return text.split()[:1] == ["scope"] and any(
+        name == "reduction" and not re.match(r"reduction\s*\(\s*task\b", text[start:end])
+        for name, start, end in clauses_of(text))
+
+
+def body(kind, file, line, next_line):
+    """What stands before a body, and says to the hooks where it begins and ends."""
+    return f'# {line} "{file}"\nfor (__spbags_body({kind}); __spbags_goes_on();)\n# {next_line} "{file}"\n'
+
+
+def with_body(text, kind, file, line):
+    """A directive whose body says to the hooks where it begins and ends."""
+    return f"#pragma omp{text}\n" + body(kind, file, line, line + 1)
+
+
+class Source:
+    """A preprocessed source, whose directives are read one by one."""
+
+    def __init__(self, text, is_clang):
+        self.text, self.files, self.has_raw_strings = text, Files(text), has_raw_strings(text)
+        self.file, self.line, self.faults, self.is_clang = "?", 1, [], is_clang
+        # What comes next of clang's sections: the brace around them, or the first of them.
+        self.awaits = None
+
+    @functools.cached_property
+    def bare(self):
+        """The text without what is in strings."""
+        return blanked(self.text)
+
+    def matched(self, pattern, start):
+        """What this finds at the beginning of a line, which only a raw string could hold."""
+        found = pattern.match(self.text, start)
+        return found if found and not (self.has_raw_strings and not pattern.match(self.bare, start)) else None
+
+    def refuse(self, why):
+        self.faults.append(f"{self.file}:{self.line}: error: {why}")
+
+    def directive(self, text, end):
+        """What stands for a directive, whose line ends here."""
+        why = refusal(text) or self.refused_nest(text, end)
+        if why:
+            self.refuse(f"OpenMP's {why} can't be traced: #pragma omp{text}")
+        clauses = clauses_of(text)
+        names = leading(clauses)
+        if names[:1] == ["cancel"]:
+            return f"#pragma omp{text}\n"
+        if sums_in_scope(text):
+            return self.scope(text)
+        if "for" in names:
+            return f"#pragma omp{rescheduled(text)}\n"
+        text = filtered(text)
+        if names[:1] in (["master"], ["masked"]) and names[1:2] == ["taskloop"]:
+            text, thread = without(text, "filter")
+            rest = clauses_of(text)[1][1]
+            master = with_body(f" {names[0]} {thread}", BODIES[names[0]], self.file, self.line)
+            return f'{master}# {self.line} "{self.file}"\n#pragma omp {text[rest:]}\n'
+        if self.is_clang and names[-1:] == ["sections"]:
+            self.awaits = "brace"
+            if {"nowait", "lastprivate"} <= {name for name, _, _ in clauses}:
+                return body(LAST_BODY, self.file, self.line, self.line) + f"#pragma omp{text}\n"
+        if self.is_clang and names == ["section"]:
+            return with_body(text, SECTION_BODY, self.file, self.line)
+        if names == ["simd"]:
+            return body(SIMD_BODY, self.file, self.line, self.line) + f"#pragma omp{text}\n"
+        if names and names[-1] in BODIES:
+            return with_body(text, BODIES[names[-1]], self.file, self.line)
+        return f"#pragma omp{text}\n"
+
+    def refused_nest(self, text, end):
+        """gcc knows no schedule for it."""
+        is_known = self.is_clang or "for" not in leading(clauses_of(text)) or self.is_rectangular(text, end)
+        return None if is_known else "collapse by gcc of loops that aren't rectangular"
+
+    def is_rectangular(self, text, end):
+        """Whether no loop that the directive in the line before collapses names the variable of one around it."""
+        collapsed = next((text[start:end] for name, start, end in clauses_of(text) if name == "collapse"), "")
+        count, variables = int("".join(re.findall("[0-9]+", collapsed)) or 1), set()
+        headers = HEADER.findall(self.bare, end, end + LOOPS_LENGTH) if count > 1 else ()
+        for begin, condition in headers[:count]:
+            variable, _, value = begin.partition("=")
+            if variables & set(WORD.findall(value + condition)):
+                return False
+            variables |= set(WORD.findall(variable)[-1:])
+        return True
+
+    def scope(self, text):
+        """The hooks wait in place of the scope, where its threads have combined their variables."""
+        text, nowait = without(text, "nowait")
+        around = body(SCOPE_NOWAIT_BODY if nowait else SCOPE_BODY, self.file, self.line, self.line)
+        return around + with_body(text.rstrip(" ,") + " nowait", SCOPED_BODY, self.file, self.line)
+
+    def first_section(self, line, bare):
+        """What stands before the rest of a line, with the directive of the first section if that is left out; and the
+        rest."""
+        before = ""
+        if self.awaits == "brace" and "{" in bare and not PRAGMA.match(bare):
+            behind = bare.index("{") + 1
+            before, line, self.awaits = line[:behind], line[behind:], "section"
+        if self.awaits == "section" and line.strip():
+            self.awaits = None
+            if not SECTION.match(line):
+                before += "\n#pragma omp section\n" + body(SECTION_BODY, self.file, self.line, self.line)
+        return before, line
+
+    def rewritten(self):
+        made, done, found = [], 0, MEANT.search(self.text)
+        while found:
+            start = self.text.rfind("\n", 0, found.start()) + 1
+            made.append(self.text[done:start])
+            self.file, self.line = self.files.place(start)
+            done = self.rewrite_lines(made, start)
+            found = MEANT.search(self.text, done)
+        return "".join(made) + self.text[done:]
+
+    def rewrite_lines(self, made, start):
+        """The end of this line, or where clang's sections begin here of the one in which the first of them does."""
+        while start < len(self.text):
+            end = self.text.find("\n", start) + 1 or len(self.text)
+            made.append(self.rewritten_line(start, end))
+            start = end
+            if not self.awaits:
+                break
+        return start
+
+    def rewritten_line(self, start, end):
+        """What stands for a line."""
+        line, marker = self.text[start:end], self.matched(MARKER, start)
+        if marker:
+            self.line, self.file = int(marker[1]), marker[2][1:-1] if marker[2] else self.file
+            return line
+        pragma = self.matched(PRAGMA, start)
+        before, line = self.first_section(line, self.bare[start:end]) if self.awaits else ("", line)
+        if pragma:
+            line = self.directive(pragma[1], end)
+        elif ATTRIBUTE.search(line) and ATTRIBUTE.search(self.bare, start, end):
+            self.refuse("attributes of OpenMP can't be traced: write #pragma omp")
+        self.line += 1
+        return before + line
+
+
+def rewritten(text, is_clang=False):
+    """The source with its loops rewritten, and a line for each directive that can't be traced."""
+    source = Source(text, is_clang)
+    return source.rewritten(), source.faults
+
+
+def ignored(text):
+    """The places of directives by which something would be parallel, but for those of the system's headers."""
+    bare, files = blanked(text), Files(text)
+    for pragma in PRAGMAS.finditer(text):
+        if PRAGMA.match(bare, pragma.start()) and MAKES_PARALLEL & set(leading(clauses_of(pragma[1]))) and \
+                not files.at(pragma.start())[0].startswith(SYSTEM):
+            yield files.place(pragma.start())
+
+
+# What the hooks of OpenMP don't have, by its name.
+UNKNOWN = (
+    ("GOMP_target|GOACC|GOMP_offload|omp_target", "OpenMP's target"),
+    ("GOMP_doacross|GOMP_loop.*_doacross", "OpenMP's depend"),
+    ("GOMP_teams|omp_.*teams", "OpenMP's teams"),
+    ("omp_fulfill_event", "OpenMP's detach"),
+    ("GOMP_alloc|GOMP_free|omp_.*alloc|omp_free", "OpenMP's allocate"),
+    ("GOMP_loop|GOMP_parallel_loop", "a loop that the tracer's compiler didn't compile"),
+    ("GOMP_|omp_|__kmpc_", "a part of OpenMP"))
+UNDEFINED = re.compile("^(?:\\S*ld: )?(.*?):? undefined reference to [`'](\\w+)'", re.MULTILINE)
+
+
+def unknown(messages):
+    """A line for each call of OpenMP that a linker's messages say is missing."""
+    lines = []
+    for where, name in UNDEFINED.findall(messages):
+        what = next((what for pattern, what in UNKNOWN if re.match(pattern, name)), None)
+        if what:
+            lines.append(f"{where}: {name} can't be traced: it is {what}")
+    return list(dict.fromkeys(lines))

@@ -1,0 +1,80 @@
+"""The plugins by which gcc and clang put the hooks into a program's code. Each is built once for each compiler, and
+kept."""
+import hashlib
+import os
+import re
+
+from compile.processes import answer, run
+from installation import HERE
+
+PLUGINS = os.path.join(HERE, "plugins")
+FLAGS = ["-std=c++17", "-O1", "-fPIC", "-fno-rtti"]
+
+
+def asked(compiler, question):
+    return answer(*compiler, question)[1].strip()
+
+
+def headers_of(compiler, is_clang):
+    """The folder of the compiler's own headers, which are in a package of their own."""
+    if is_clang:
+        return os.path.join(asked(compiler, "-print-resource-dir"), "..", "..", "..", "include")
+    return os.path.join(asked(compiler, "-print-file-name=plugin"), "include")
+
+
+def lacks(compiler, is_clang):
+    """A line that says which package is missing, or None."""
+    known, package = ("llvm/Passes/PassPlugin.h", "llvm-{}-dev") if is_clang else ("gcc-plugin.h", "gcc-{}-plugin-dev")
+    if os.path.exists(os.path.join(headers_of(compiler, is_clang), known)):
+        return None
+    number = asked(compiler, "-dumpversion").partition(".")[0]
+    return f"{compiler[0]}: the headers for its plugins aren't here: install {package.format(number)}"
+
+
+def cplusplus_of(compiler):
+    """A compiler of C++, of the same version if there is one."""
+    name = re.sub(r"gcc(?=(-[\d.]+)?$)", "g++", re.sub(r"clang(?=(-[\d.]+)?$)", "clang++", compiler[0]))
+    return next((found for found in (name, "g++", "c++", "clang++") if is_there(found)), "g++")
+
+
+def is_there(compiler):
+    try:
+        return answer(compiler, "--version")[0] == 0
+    except OSError:
+        return False
+
+
+def files_of(is_clang, ending):
+    """Those that the plugin is made of; some are of both."""
+    folders = (os.path.join(PLUGINS, "llvm" if is_clang else "gcc"), PLUGINS)
+    return sorted(os.path.join(folder, name) for folder in folders for name in os.listdir(folder)
+                  if name.endswith(ending))
+
+
+def made_of(about, is_clang):
+    """A hash of what the plugin for a compiler that says this about itself is made of."""
+    found = hashlib.sha256(repr((about, FLAGS)).encode())
+    for name in (*files_of(is_clang, ".cc"), *files_of(is_clang, ".h")):
+        with open(name, "rb") as file:
+            found.update(file.read())
+    return found
+
+
+def build(compiler, is_clang, folder, fail):
+    """Builds it in a folder. The compiler's headers, which take the time, are read once for all sources."""
+    if lacks(compiler, is_clang):
+        fail(lacks(compiler, is_clang))
+    whole, made = os.path.join(folder, "whole.cc"), os.path.join(folder, "spbags.so")
+    with open(whole, "w", encoding="utf-8") as file:
+        file.writelines(f'#include "{source}"\n' for source in files_of(is_clang, ".cc"))
+    run(cplusplus_of(compiler), *FLAGS, "-isystem", headers_of(compiler, is_clang), "-shared", whole, "-o", made)
+    return made
+
+
+def options(built, is_clang, checks):
+    """The compiler's words for the plugin; the tests' macros are in a file, if there are to be any."""
+    if not is_clang:
+        name = os.path.splitext(os.path.basename(built))[0]
+        return ["-fplugin=" + built, *([f"-fplugin-arg-{name}-checks={checks}"] if checks else [])]
+    early = ["-Xclang", "-load", "-Xclang", built, "-mllvm", f"-spbags-checks={checks}"]
+    return ["-fpass-plugin=" + built, *(early if checks else [])]

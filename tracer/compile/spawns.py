@@ -1,0 +1,187 @@
+"""Rewrites the spawns and syncs of a preprocessed source into calls of the hooks.
+
+In C a spawn is a statement `f(..)`, `x = f(..)` or `x += f(..)` with the keyword before the call. What the parent
+evaluates comes first, into temporaries: the function, its arguments, the address of the result. Then the child is
+opened, and the call and the store of the result are the child's. Nothing else can be divided between a parent and its
+child by a text alone, so every other spawn is refused.
+"""
+import re
+
+from compile import loops
+from compile import spawns_cplusplus
+from compile.line_markers import Files
+from tokens import (ASSIGNMENTS, Refused, arguments_of, call_after, is_in_block, is_lvalue, own_constants, piece,
+                    statement_start, tokens_of, without)
+
+LITERALS = {"string", "character", "number"}
+NO_LOCALS = {"static", "extern", "typedef", "__auto_type"}
+
+# The program's pragmas of OpenMP, which its compiler would ignore, and those of Cilk, of a loop's grain size.
+IGNORED = re.compile(r"^[ \t]*#[ \t]*pragma[ \t]+(?:omp|cilk)\b.*", re.MULTILINE)
+
+SHAPES = "write `cilk_spawn f(..);', `x = cilk_spawn f(..);' or `x += cilk_spawn f(..);' as a statement of its own"
+# The result's memory, but for what a call gives in a register: no number and no pointer has any on the way.
+HELD = "__builtin_choose_expr(sizeof __spbags_result <= 8 && __builtin_classify_type(__spbags_result) < 12, " \
+       "(const volatile void *)0, (const volatile void *)&__spbags_result)"
+REFUSED = {word: f"{word} is no keyword here: write `#include <cilk/cilk.h>' above"
+           for word in ("cilk_spawn", "cilk_sync", "cilk_for", "cilk_scope")}
+# What may have to be rewritten, beside where another edit says so.
+MEANT = {"_Cilk_spawn", "_Cilk_for", "_Cilk_scope", "_Cilk_sync", "try", *REFUSED}
+
+
+def is_one_target(tokens, first, sign):
+    """Whether one thing stands before this sign, which is an assignment's."""
+    direct = {token.text for token in tokens[first:sign] if token.around == tokens[sign].around}
+    return tokens[sign].text in ASSIGNMENTS and first < sign and not (ASSIGNMENTS | {",", "?", "return"}) & direct
+
+
+def check_target(tokens, first, spawn):
+    """What stands before a spawn has to be `lvalue =` or `type name =`."""
+    sign = spawn - 1
+    target = tokens[first:sign]
+    if not is_one_target(tokens, first, sign):
+        raise Refused(tokens[spawn], f"a spawn inside a larger expression can't be traced: {SHAPES}")
+    if is_lvalue(tokens, first, sign):
+        return False
+    if target[-1].kind != "word" or tokens[sign].text != "=" or any(token.text in NO_LOCALS for token in target):
+        raise Refused(tokens[spawn], "a spawn can't be traced in this declaration: declare the variable before it")
+    return True
+
+
+class Spawn:
+    """One spawn, and the pieces of what stands for its statement."""
+
+    def __init__(self, text, tokens, spawn):
+        self.text, self.tokens, self.spawn = text, tokens, spawn
+        self.here = tokens[spawn].marker(" 3")
+        self.opening = call_after(tokens, spawn)
+        if not is_in_block(tokens, spawn) or self.opening is None:
+            raise Refused(tokens[spawn], f"a spawn inside a larger expression can't be traced: {SHAPES}")
+        self.closing = tokens[self.opening].partner
+        if any(token.text == "_Cilk_spawn" for token in tokens[spawn + 1:self.closing]):
+            raise Refused(tokens[spawn], f"a spawn inside another one can't be traced: {SHAPES}")
+        self.first = statement_start(tokens, spawn)
+        self.last = self.closing + 1
+
+    def piece(self, first, last, without=()):
+        """A piece of the program, on its own lines; what follows is on the spawn's."""
+        return piece(self.text, self.tokens[first], self.tokens[last], without) + self.here
+
+    def arguments(self):
+        """A declaration for each argument that has to be evaluated first, and what to hand over."""
+        made, names = [], []
+        for number, (first, last) in enumerate(arguments_of(self.tokens, self.opening)):
+            if all(token.kind in LITERALS for token in self.tokens[first:last + 1]):
+                names.append(self.text[self.tokens[first].start:self.tokens[last].end])
+            else:
+                # The comma makes a pointer of an array, and a plain number of a bit field.
+                made.append(f"__auto_type __spbags_{number} = ((void)0, ({self.piece(first, last)}));")
+                names.append(f"__spbags_{number}")
+        return made, ", ".join(names)
+
+    def target(self):
+        """The declaration that goes before all, and the one of the result's address."""
+        if [token.text for token in self.tokens[self.first:self.spawn]] in ([], ["(", "void", ")"]):
+            return "", []
+        declared, named = "", (self.first, self.spawn - 2)
+        if check_target(self.tokens, self.first, self.spawn):
+            declared = self.piece(*named, own_constants(self.tokens, *named)) + ";"
+            named = (self.spawn - 2, self.spawn - 2)
+        return declared, [f"__auto_type __spbags_target = &({self.piece(*named)});"]
+
+    def rewritten(self):
+        declared, address = self.target()
+        before, names = self.arguments()
+        call = f"__spbags_g({names})"
+        # What a call gives in memory, used or not, has to be in a variable that the hooks know.
+        result = f"__builtin_choose_expr(sizeof({call}) > 16, {call}, ((void){call}, 0))"
+        ends = [f"__spbags_return({HELD}, sizeof __spbags_result); }}"]
+        if address:
+            result = call
+            # Whatever races with a read of it races with this write too.
+            sign = self.tokens[self.spawn - 1].text
+            ends = [f"*__spbags_target {sign} __spbags_result;", "__spbags_stored(__spbags_target, "
+                    f"sizeof *__spbags_target, {HELD}, sizeof __spbags_result); }}"]
+        made = [
+            f"{{ __auto_type __spbags_f = ({self.piece(self.spawn + 1, self.opening - 1)});", *before, *address,
+            "__auto_type __spbags_g = (__typeof__(__spbags_f))__spbags_spawn((__spbags_function)__spbags_f);",
+            # Never done, as only the hooks know; but where it could be, arguments pass below the stack pointer.
+            "if (!__spbags_g) __spbags_return(__builtin_alloca(16), 0);",
+            f"__auto_type __spbags_result = {result};", *ends]
+        return self.here + declared + " ".join(made) + self.tokens[self.last].marker()
+
+
+def refused(text, why):
+    """A line for each keyword of Cilk in a source that can't have any."""
+    tokens = tokens_of(text) if "_Cilk_" in text else []
+    return [f"{token.place()}: error: {why}" for token in tokens if token.text.startswith("_Cilk_")]
+
+
+def edits_of(text, tokens, at, language, waiting):
+    """What has to be rewritten here: the indexes of the first and the last token, and their new text; and later edits,
+    each of this form, or the index of a token and what comes behind it. Or None."""
+    token = tokens[at]
+    if token.text in REFUSED:
+        raise Refused(token, REFUSED[token.text])
+    if token.text == "_Cilk_spawn":
+        if language == "c++":
+            return spawns_cplusplus.Spawn(text, tokens, at, waiting).edits()
+        found = Spawn(text, tokens, at)
+        return (found.first, found.last, found.rewritten()), []
+    if token.text == "_Cilk_for":
+        edit, later = loops.Loop(text, tokens, at, language, waiting).edits()
+        return edit, [later]
+    if token.text == "_Cilk_scope":
+        edit, later = loops.scope_edits(tokens, at)
+        return edit, [later]
+    if token.text == "_Cilk_sync":
+        return (at, at, spawns_cplusplus.sync(tokens, at, waiting) if waiting else "__spbags_sync()"), []
+    if token.text == "try" and language == "c++" and not token.system:
+        return spawns_cplusplus.try_edits(tokens, at, waiting)
+    if at in waiting:
+        return (at, at, "{" + spawns_cplusplus.keeper(token)), []
+    return None
+
+
+class Rewriting:
+    """A source that is rewritten from its first token to its last."""
+
+    def __init__(self, text, language):
+        self.text, self.language = text, language
+        self.tokens = tokens_of(text, Files(text).own())
+        self.waiting = spawns_cplusplus.waiting_in(text, self.tokens) if language == "c++" else set()
+        self.made, self.done, self.faults, self.behind, self.planned = [], 0, [], {}, {}
+
+    def rewrite(self, at):
+        try:
+            edits = self.planned.pop(at, None) or edits_of(self.text, self.tokens, at, self.language, self.waiting)
+        except Refused as refused:
+            self.faults.append(f"{refused.token.place()}: error: {refused}")
+            return
+        if edits:
+            (first, last, instead), later = edits
+            self.made += [self.text[self.done:self.tokens[first].start], instead]
+            self.done = self.tokens[last].end
+            for edit in later:
+                if len(edit) == 3:
+                    self.planned[edit[0]] = edit, []
+                else:
+                    self.behind.setdefault(edit[0], []).insert(0, edit[1])
+
+    def rewritten(self):
+        for at, token in enumerate(self.tokens):
+            if (token.text in MEANT or at in self.planned or at in self.waiting) and token.start >= self.done:
+                self.rewrite(at)
+            for instead in self.behind.pop(at, ()):
+                self.made += [self.text[self.done:token.end], instead]
+                self.done = max(self.done, token.end)
+        return "".join(self.made) + self.text[self.done:], self.faults
+
+
+def rewritten(text, language):
+    """The source with its spawns, loops, scopes and syncs rewritten, and a line for each that can't be."""
+    has_loops = "_Cilk_for" in text
+    if has_loops:
+        text = without(text, IGNORED)
+    text, faults = Rewriting(text, language).rewritten()
+    return (text + loops.INSTEAD_OF_TASK if has_loops and language == "gcc" else text), faults

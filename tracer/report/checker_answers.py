@@ -1,0 +1,157 @@
+"""Answers of `spbags`, and the code addresses of a trace's places."""
+import bisect
+import mmap
+import os
+import re
+import struct
+from collections import namedtuple
+from itertools import accumulate, cycle, islice
+
+from report.failure import Failure
+
+HEAD = re.compile(r"(races|pairs) ([0-9]+)\n")
+RACE = re.compile(r"(?:race ([0-9]+)|pair) (read|write) ([0-9]+) (read|write) ([0-9]+)\n")
+
+
+def races_of(lines):
+    """The races of a report: the location, and the kind and the place of both accesses."""
+    head = HEAD.fullmatch(lines[0]) if lines else None
+    if not head:
+        raise Failure("the report has no first line `races N'" if lines else
+                      "the report is empty: did spbags find a fault?")
+    races = [race_of(line, number) for number, line in enumerate(lines[1:], 2)]
+    if len(races) != int(head[2]):
+        raise Failure(f"report line {len(lines) + 1}: bad")
+    return races
+
+
+# Where a unit is divided into its bytes, their locations begin here, in turn by unit. Bytes of the stack that another
+# variable has now are in units of their own, from that location on.
+FIRST_BYTE, BYTES, FIRST_FRESH = 1 << 60, 8, 1 << 56
+
+
+def unit_of(location):
+    """The location of the unit that a location of a byte is in."""
+    return (location - FIRST_BYTE) // BYTES if location >= FIRST_BYTE else location
+
+
+def address_of(location, unit):
+    """That of a location that isn't of the stack."""
+    byte = (location - FIRST_BYTE) % BYTES if location >= FIRST_BYTE else 0
+    return unit_of(location) // 2 * unit + byte
+
+
+def race_of(line, number):
+    race = RACE.fullmatch(line)
+    if not race:
+        raise Failure(f"report line {number}: bad")
+    location, kind, place, other_kind, other_place = race.groups()
+    return location and int(location), (kind, int(place)), (other_kind, int(other_place))
+
+
+# What a record's place says: the code address, whether the access there doesn't fill its unit, and what was held, as
+# pairs of a number and a name, or None where that isn't known.
+Site = namedtuple("Site", "code is_narrow guards")
+NO_SITE = 0xffff
+# The first part of a site's word, and the list that isn't known.
+CODE, NO_LIST = (1 << 48) - 1, 0x7fff
+
+
+def guard_of(text):
+    number, _, name = text.partition(" ")
+    return int(number, 16), name
+
+
+def unpacked(packed):
+    """The numbers of a block, by hooks/records/packing.h."""
+    numbers, rest = [], iter(packed)
+    for new in rest:
+        numbers += islice(rest, new)
+        back, count = next(rest, 1), next(rest, 0)
+        numbers += islice(cycle(numbers[-back:]), count)
+    return numbers
+
+
+class Places:
+    """A run's file of places: packed blocks of numbers of 2 bytes, by hooks/records/places.h; where each block ends, as
+    how many records and how many packed numbers stand before; the sites, the lists of guards, the lines of the report;
+    and how many of all these there are."""
+    END = struct.Struct("<QQQQQQ8s")
+    MARK, TWO, REPEAT = b"spbplace", 0xfffd, 0xfffe
+
+    def __init__(self, file, name):
+        self.name = name
+        size = os.fstat(file.fileno()).st_size
+        self.bytes = mmap.mmap(file.fileno(), 0, access=mmap.ACCESS_READ) if size > 0 else b""
+        if size < self.END.size or self.bytes[-8:] != self.MARK:
+            raise Failure(f"{name} is incomplete: did the run end early?")
+        self.count, numbers, marks, sites, lists, notes, _ = self.END.unpack_from(self.bytes, size - self.END.size)
+        starts = list(accumulate((2 * numbers, 16 * marks, 8 * sites, lists, notes)))
+        if starts[-1] != size - self.END.size:
+            raise Failure(f"{name}: this isn't a file of places")
+        self.marks = [(0, 0), *struct.iter_unpack("<QQ", self.bytes[starts[0]:starts[1]])]
+        words = struct.unpack_from(f"<{sites}Q", self.bytes, starts[1])
+        lists = [(), *(tuple(map(guard_of, line.split("\t"))) for line in self.text(*starts[2:4]))]
+        self.sites = [Site(word & CODE, word >> 63 == 1, self.held(lists, word >> 48 & NO_LIST)) for word in words]
+        self.notes = self.text(*starts[3:5])
+        # The newest part that was read, and which that is; and the numbers of records that were looked up.
+        self.part, self.ends, self.numbers, self.found = None, [], [], {}
+
+    def text(self, start, end):
+        return self.bytes[start:end].decode(errors="replace").splitlines()
+
+    @staticmethod
+    def held(lists, number):
+        return lists[number] if number != NO_LIST else None
+
+    def need(self, wanted):
+        """All these places are of this trace. They are looked up together, in their order."""
+        for place in sorted(wanted):
+            if not 0 < place <= self.count:
+                raise Failure(f"{self.name} has no place {place}: does the report belong to another trace?")
+            self.found[place] = self.number(place)
+
+    def read_part(self, part):
+        """Of the records of a block: where those of each site end, one behind the other."""
+        (at, first), (_, end) = self.marks[part:part + 2]
+        self.part, self.ends, self.numbers = part, [], []
+        numbers = iter(unpacked(memoryview(self.bytes)[2 * first:2 * end].cast("H")))
+        for number in numbers:
+            if number == self.REPEAT:
+                at += next(numbers)
+                self.ends[-1] = at
+            elif number == self.TWO:
+                *two, count, first, second, third, fourth = islice(numbers, 7)
+                bits = first | second << 16 | third << 32 | fourth << 48
+                self.numbers += [two[bits >> record & 1] for record in range(count)]
+                self.ends += range(at + 1, at + count + 1)
+                at += count
+            else:
+                at += 1
+                self.ends.append(at)
+                self.numbers.append(number)
+
+    def number(self, place):
+        part = bisect.bisect_left(self.marks, (place,)) - 1
+        if part != self.part:
+            self.read_part(part)
+        return self.numbers[bisect.bisect_left(self.ends, place)]
+
+    def site(self, place):
+        """None where it isn't known."""
+        if not 0 < place <= self.count:
+            return None
+        number = self.found[place] if place in self.found else self.number(place)
+        return self.sites[number] if number != NO_SITE else None
+
+
+def places_of(name):
+    with open(name, "rb") as file:
+        return Places(file, name)
+
+
+def codes_of(places, wanted):
+    """The code address of each of these places, or 0 where it isn't known."""
+    places.need(wanted)
+    sites = {place: places.site(place) for place in wanted}
+    return {place: site.code if site else 0 for place, site in sites.items()}

@@ -1,0 +1,123 @@
+"""The variables, members and elements that a line of a source names, and what it does with them, as far as its text
+alone tells."""
+import functools
+import re
+from collections import namedtuple
+
+from report.source_lines import without_comments
+from tokens import ASSIGNMENTS, tokens_of
+
+# What a line names: its text; the name that it begins with, and what follows, each `*`, `[]`, `.NAME`, `->NAME` or `()`;
+# whether an operator reads and writes it there; whether it may be both, since its address is taken or it is handed to a
+# function; whether it is declared there; and whether a statement begins with it, so that nobody uses the value.
+Use = namedtuple("Use", "text base steps reads writes is_handed is_declared is_first")
+
+RESERVED = set("alignof break case catch cilk_spawn co_return co_yield const constexpr continue decltype default delete do else "
+               "extern false for goto if inline new nullptr register return sizeof static switch throw true try typedef "
+               "typeof union using virtual void volatile while _Cilk_spawn _Cilk_for cilk_for cilk_sync struct enum "
+               "class".split())
+IN_TYPES = {"const", "volatile"}
+STEPS = {"*", "&", "++", "--"}
+ENDS = (")", ",", None)
+BEFORE_STATEMENT = (None, ";", "{", "}", ")", ",", ":", "else", "do")
+
+
+class Line:
+    def __init__(self, text):
+        self.tokens = tokens_of(without_comments(text))
+
+    def text_at(self, at):
+        return self.tokens[at].text if 0 <= at < len(self.tokens) else None
+
+    def is_operand(self, at):
+        """Whether an expression may end here, so that what follows is no prefix."""
+        if not 0 <= at < len(self.tokens):
+            return False
+        token = self.tokens[at]
+        return token.text in (")", "]") or (token.kind != "mark" and token.text not in RESERVED)
+
+    def uses(self):
+        return [self.use(at) for at, token in enumerate(self.tokens)
+                if token.kind == "word" and token.text not in RESERVED and
+                self.text_at(at - 1) not in (".", "->", "sizeof") and self.text_at(at + 1) != "::"]
+
+    def postfixes(self, at):
+        """The steps from here on, and what follows them."""
+        steps = []
+        while self.text_at(at) in ("[", "(", ".", "->"):
+            token = self.tokens[at]
+            if token.text in (".", "->"):
+                steps.append(token.text + (self.text_at(at + 1) or ""))
+                at += 2
+            elif token.partner is None:
+                break
+            else:
+                steps.append(token.text + self.tokens[token.partner].text)
+                at = token.partner + 1
+        return steps, at
+
+    def use(self, first):
+        base, start = self.text_at(first), first
+        while self.text_at(start - 1) == "::":
+            start -= 2 if self.is_operand(start - 2) else 1
+        steps, end = self.postfixes(first + 1)
+        prefix = self.prefix(start)
+        if prefix == "*" and self.text_at(start - 2) == "(" and self.text_at(end) == ")":
+            # (*p).x, or the same in other brackets.
+            more, end = self.postfixes(end + 1)
+            steps, start, prefix = [*steps, "*", *more], start - 2, self.prefix(start - 2)
+        behind = self.text_at(end)
+        if prefix == "*":
+            steps = [*steps, "*"]
+            start -= 1
+            behind = self.text_at(end + 1) if behind in ("++", "--") else behind
+            prefix = self.prefix(start)
+        text = " ".join([base, *steps])
+        is_first = self.text_at(start - 1 - (prefix is not None)) in BEFORE_STATEMENT
+        return Use(text, base, tuple(steps), *self.usage(start, prefix, behind), self.is_declared(first), is_first)
+
+    def prefix(self, start):
+        """The operator for one operand before this, or None."""
+        found = self.text_at(start - 1)
+        return found if found in STEPS and not self.is_operand(start - 2) else None
+
+    def is_declared(self, name):
+        """Whether a type is before this name."""
+        before = name - 1
+        while self.text_at(before) in ("*", "&", "&&"):
+            before -= 1
+        token = self.tokens[before] if before >= 0 else None
+        return bool(token) and token.kind == "word" and (token.text not in RESERVED or token.text in IN_TYPES)
+
+    def usage(self, start, prefix, behind):
+        """Whether it is read, written or handed on, by the operators around it."""
+        is_handed = prefix == "&" or (behind in ENDS and self.text_at(start - 1) in ("(", ",") and self.is_call(start))
+        counts = "++" in (prefix, behind) or "--" in (prefix, behind)
+        return counts or behind != "=", counts or behind in ASSIGNMENTS, is_handed
+
+    def is_call(self, at):
+        around = self.tokens[at].around
+        return around is not None and self.text_at(around) == "(" and self.is_operand(around - 1)
+
+
+@functools.lru_cache
+def uses_of(text):
+    return Line(text).uses()
+
+
+def updates(text, before="", after=""):
+    """Whether all that a line writes is made of what it was, as a sum or a greatest number is, and used by nothing else.
+    The line before may ask for that, or this one for what the line after does."""
+    written = written_in(text)
+    if not written and is_question(text):
+        before, written = "", written_in(after)
+    read = {use.text for use in (*uses_of(text), *(uses_of(before) if is_question(before) else ())) if use.reads}
+    return bool(written) and all(use.is_first and use.text in read for use in written)
+
+
+def written_in(text):
+    return [use for use in uses_of(text) if use.writes and "()" not in use.steps and not use.is_declared]
+
+
+def is_question(text):
+    return re.match(r"(?:else )?if\b", text) is not None

@@ -1,0 +1,70 @@
+"""What the text calls functions: a lambda by the line where it begins, and a template without its long arguments."""
+import functools
+import os
+import re
+
+from report import source_lines
+from tokens import tokens_of
+
+# What gcc and clang call a lambda.
+LAMBDA = re.compile(r"\{lambda\(|'lambda[0-9]*'|\$_[0-9]+\b")
+OPERATOR = re.compile(r"operator\s*(?:<=>|<<=|>>=|->\*|<<|>>|<=|>=|->|<|>)")
+# Longer arguments of a template are folded.
+MOST_ARGUMENTS, FOLDED = 12, "<..>"
+# Words before an opening square bracket that don't make it a subscript.
+BEFORE_LAMBDA = {"return", "co_return", "co_yield", "case", "else", "do"}
+
+
+def without_arguments(name):
+    made, at = [], 0
+    while at < len(name):
+        operator = OPERATOR.match(name, at)
+        end = operator.end() if operator else source_lines.after_brackets(name, at, "<", ">")
+        is_folded = not operator and end - at > MOST_ARGUMENTS
+        end = max(end if operator or is_folded else 0, at + 1)
+        made.append(FOLDED if is_folded else name[at:end])
+        at = end
+    return "".join(made)
+
+
+def function_of(position):
+    """What the text calls the function of a position."""
+    name = without_arguments(position.function)
+    lambdas = list(LAMBDA.finditer(name))
+    if not lambdas or "operator()" not in name[lambdas[-1].start():]:
+        return name
+    line, outer = line_of_lambda(position), name[:lambdas[0].start()].rstrip(":")
+    outer = outer.removeprefix("decltype(auto) ").removeprefix("auto ")
+    if line:
+        return f"lambda at {os.path.basename(position.file)}:{line}"
+    # Where the source has none, it is the body of a cilk_for.
+    return outer if source_lines.lines_of(position.file) else f"lambda in {outer}"
+
+
+def line_of_lambda(position):
+    """Where the innermost lambda around a line begins, or None."""
+    around = [first for first, last in lambdas_of(position.file) if first <= position.line <= last]
+    return max(around, default=None)
+
+
+@functools.lru_cache
+def lambdas_of(file):
+    """The first and the last line of each lambda of a source."""
+    tokens = tokens_of(source_lines.without_comments("\n".join(source_lines.lines_of(file))))
+    found = []
+    for at, token in enumerate(tokens):
+        body = body_of_lambda(tokens, at) if token.text == "[" and token.partner else None
+        if body is not None:
+            found.append((token.line, tokens[tokens[body].partner].line))
+    return found
+
+
+def body_of_lambda(tokens, opening):
+    """The brace that opens the body of the lambda that begins here, or None where none does."""
+    before = tokens[opening - 1] if opening > 0 else None
+    if before and (before.text in (")", "]", "[") or (before.kind == "word" and before.text not in BEFORE_LAMBDA)):
+        return None
+    at = tokens[opening].partner + 1
+    while at < len(tokens) and tokens[at].text not in ("{", "}", ";", ",", ")", "]", "="):
+        at = tokens[at].partner + 1 if tokens[at].text in ("(", "[") and tokens[at].partner else at + 1
+    return at if at < len(tokens) and tokens[at].text == "{" and tokens[at].partner else None

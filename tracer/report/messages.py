@@ -1,0 +1,86 @@
+"""What a traced program says of its run: a line for each record, `NAME [WORD ..]: TEXT`, in the pipe that SPBAGS_SAYS
+names. spbags-run goes by the names and the words; the text is for people. In a text `<code 0x..>` stands for the line of the
+source that has this code.
+
+    fault                 there is no answer, and the text says why
+    fault closed          the same, since nobody read the trace any more
+    end signal NUMBER     the run was cut short, and what came before is there: by a signal,
+    end limit BYTES       by the limit of the trace's size,
+    end exec              by another program in place of this one,
+    end daemon            or since the program became a daemon
+    unit BYTES            accesses don't fill their units, and this unit tells neighbours apart
+    depth NUMBER          procedures nest deeper than `spbags` takes by default
+    course RECORDS DIGEST GUARDS
+                          what the run did, and what it held, without a text: another run with these did the same
+    ran SPAWNS ACCESSES   what the detector inside has taken, without a text
+    stuck CODE ..         the program may wait for ever, and the stack; it doesn't wait for the report
+    unseen CALLS LIBRARY  a function of which nothing is known, whose name is the text
+    incomplete            something wasn't seen or modelled
+    waits                 the same, but another run may model it, by the file that SPBAGS_WAITED names
+    seeming               some of the races may be none
+    note                  what the report doesn't say
+"""
+import contextlib
+import os
+import re
+import threading
+from collections import namedtuple
+
+from report import source_lines
+from report.failure import Failure
+
+Record = namedtuple("Record", "name words text")
+CODE = re.compile("<code (0x[0-9a-f]+)>")
+
+
+def record_of(line):
+    head, _, text = line.partition(": ")
+    name, *words = head.removesuffix(":").split(" ")
+    return Record(name, words, text)
+
+
+def texts_of(records, name):
+    return [record.text for record in records if record.name == name]
+
+
+def with_lines(program, texts):
+    """The texts with lines of the source in place of codes, each once."""
+    codes = {int(code, 16) + 1 for text in texts for code in CODE.findall(text)}
+    try:
+        positions = source_lines.positions_of(program, codes) if codes else {}
+    except Failure:
+        positions = {}
+
+    def line_of(match):
+        position = positions.get(int(match[1], 16) + 1, [source_lines.UNKNOWN])[-1]
+        return f"{position.file}:{position.line}" if position.line > 0 else f"address {match[1]}"
+    return list(dict.fromkeys(CODE.sub(line_of, text) for text in texts))
+
+
+class Said(threading.Thread):
+    """The records, which are read as they come. Those that can't wait for the report go to a function at once."""
+    END = "\nend\n"
+
+    def __init__(self, tell):
+        super().__init__(daemon=True)
+        self.tell, self.records = tell, []
+        self.out, self.into = os.pipe()
+
+    def run(self):
+        with open(self.out, encoding="utf-8", errors="replace") as file:
+            for line in map(str.rstrip, file):
+                if line == self.END.strip():
+                    break
+                record = record_of(line)
+                if record.name == "stuck":
+                    with contextlib.suppress(Exception):
+                        self.tell(record.text, [int(code, 16) for code in record.words])
+                else:
+                    self.records.append(record)
+
+    def end(self):
+        """All records of the program, which has ended. A process that it made may still have the pipe."""
+        os.write(self.into, self.END.encode())
+        self.join()
+        os.close(self.into)
+        return self.records
