@@ -25,7 +25,8 @@ static inline bool caller_is_between(uintptr_t code, const char *first, const ch
 }
 
 static inline bool caller_is_program(uintptr_t code) {
-    return caller_is_between(code, __executable_start, etext) && !caller_is_between(code, __start_spbags_hooks, __stop_spbags_hooks);
+    return caller_is_between(code, __executable_start, etext) &&
+           !caller_is_between(code, __start_spbags_hooks, __stop_spbags_hooks);
 }
 
 #endif

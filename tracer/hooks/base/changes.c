@@ -12,5 +12,5 @@ void changes_let_signal_end(void) {
 
 void changes_refuse_handler(void) {
     tell_fault("a signal handler of the program interrupted the %s, so the run ends here without a %s",
-         doing_only_detects() ? "detector" : "tracer", doing_outcome_name());
+               doing_only_detects() ? "detector" : "tracer", doing_outcome_name());
 }

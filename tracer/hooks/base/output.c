@@ -20,7 +20,7 @@ void output_write(struct output *output) {
             output->gone += (size_t)wrote;
         else if (wrote == 0 || errno != EINTR)
             tell_fault_by(wrote < 0 && errno == EPIPE ? "fault closed" : "fault", "cannot write %s: %s", output->name,
-                    wrote == 0 ? "no byte was written" : strerror(errno));
+                          wrote == 0 ? "no byte was written" : strerror(errno));
     }
     output->written += output->gone;
     output->used = output->gone = 0;

@@ -38,8 +38,9 @@ struct scope *children_open(enum scope_kind kind, uintptr_t code) {
     bool waits = parent->kind != SCOPE_TASK || !waits_is_second;
     if (waits && scopes_unsynced(parent) == 0 && has_older()) {
         if (doing.version == 1)
-            tell_fault("tasks of one group may run at once with older ones, which only version 2 of the trace can show: "
-                 "leave out SPBAGS_VERSION=1");
+            tell_fault(
+                "tasks of one group may run at once with older ones, which only version 2 of the trace can show: "
+                "leave out SPBAGS_VERSION=1");
         write_open(SPBAGS_CALL, code);
         parent->owns = true;
     }

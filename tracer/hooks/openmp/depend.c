@@ -64,9 +64,10 @@ void depend_follow(struct depend_named *names, size_t count, bool is_named, uint
     if (!doing.tracing)
         return;
     if (depend.way == REFUSED)
-        tell_fault("%s: what depend orders can't be traced: SPBAGS_DEPEND=ignore leaves it out, and with SPBAGS_DEPEND=order "
-             "a task that depends on another one waits for all before it",
-             source_line(code, line, sizeof line));
+        tell_fault(
+            "%s: what depend orders can't be traced: SPBAGS_DEPEND=ignore leaves it out, and with SPBAGS_DEPEND=order "
+            "a task that depends on another one waits for all before it",
+            source_line(code, line, sizeof line));
     if (depend.way == IGNORED) {
         notes_keep(&notes.depend_ignored, code);
         return;

@@ -14,8 +14,9 @@ struct nested_lock {
 static const char lock_name[] = "the lock ";
 
 __attribute__((noreturn)) static void wait_for_ever(void) {
-    tell_fault("the program waits for a lock that is never unset: a task runs to its end where it is made, so what holds "
-         "the lock can't go on");
+    tell_fault(
+        "the program waits for a lock that is never unset: a task runs to its end where it is made, so what holds "
+        "the lock can't go on");
 }
 
 #pragma GCC visibility push(hidden)

@@ -103,7 +103,7 @@ static void run_member(struct member *member, uintptr_t stack_end) {
     procedures_push(FRAME_TASK_PART, stack_end);
     frames_top->code = team->code;
     frames_note_part((struct frame_part){(uintptr_t)region->data, look_region_name, (uint64_t)member->scope.thread,
-                            (uint64_t)member->scope.thread, region->whole != NULL});
+                                         (uint64_t)member->scope.thread, region->whole != NULL});
     member->base = frames_top;
     silence_follow_body();
     if (region->whole)

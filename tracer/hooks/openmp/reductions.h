@@ -7,7 +7,15 @@
 
 #include "openmp/scopes.h"
 
-enum reduction_word { REDUCTION_VARIABLES = 0, REDUCTION_SIZE = 1, REDUCTION_MEMORY = 2, REDUCTION_NEXT_ARRAY = 4, REDUCTION_END = 6, REDUCTION_FIRST = 7, REDUCTION_WORDS_EACH = 3 };
+enum reduction_word {
+    REDUCTION_VARIABLES = 0,
+    REDUCTION_SIZE = 1,
+    REDUCTION_MEMORY = 2,
+    REDUCTION_NEXT_ARRAY = 4,
+    REDUCTION_END = 6,
+    REDUCTION_FIRST = 7,
+    REDUCTION_WORDS_EACH = 3
+};
 
 void reductions_start(void);
 /* This scope has these. REDUCTION_FIRST are the first thread's, or NULL. */

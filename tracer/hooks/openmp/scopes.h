@@ -78,7 +78,9 @@ void scopes_follow(void);
 static inline uint64_t scopes_new_number(void) { return ++scopes.begun; }
 static inline void scopes_end_period(struct scope *task) { task->period = scopes_new_number(); }
 
-static inline bool scopes_is_thread(const struct scope *scope) { return scope->kind == SCOPE_TEAM || scope->kind == SCOPE_MEMBER; }
+static inline bool scopes_is_thread(const struct scope *scope) {
+    return scope->kind == SCOPE_TEAM || scope->kind == SCOPE_MEMBER;
+}
 
 /* The thread that does what is done here. */
 static inline struct scope *scopes_thread(void) {

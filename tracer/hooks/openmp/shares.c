@@ -18,7 +18,8 @@ static uint64_t left_of_block(const struct scope *thread, uint64_t left) {
 /* Two members do a loop, so that what one reaches of another is seen. Of a region that is nothing but a loop that is
    only what threads have of their own, and ordered iterations follow one another. */
 static bool is_shared_out(const struct scope *thread) {
-    return thread->kind == SCOPE_MEMBER && !thread->loop->ordered && (!thread->team->region.whole || own_has_variables());
+    return thread->kind == SCOPE_MEMBER && !thread->loop->ordered &&
+           (!thread->team->region.whole || own_has_variables());
 }
 
 /* Whether a later member of the team may do a part too: one that does no master region. */
@@ -58,8 +59,8 @@ static void end_share(const struct scope *thread, uintptr_t code) {
 /* The iterations of the share that has begun now go from this one to the newest. */
 static void note_share(const struct loop *loop, uint64_t first) {
     frames_note_part((struct frame_part){.of = loop->is_sections ? "sections" : "loop",
-                            .first = first,
-                            .last = loop->start + (loop->begun - 1) * loop->step});
+                                         .first = first,
+                                         .last = loop->start + (loop->begun - 1) * loop->step});
 }
 
 /* A block is no child, but a part of what its thread does. */

@@ -65,12 +65,17 @@ void taskloops_do(const struct task *task, struct loop loop, unsigned flags, uin
     void NAME(void (*run)(void *), void *data, void (*copy)(void *, void *), long size, long alignment, \
               unsigned flags, unsigned long wanted, int priority, __VA_ARGS__) { \
         (void)priority; \
-        struct task task = { \
-            run, data, copy, (size_t)size, (size_t)alignment, (flags & TASK_DEFERRED) != 0, (flags & TASK_FINAL) != 0}; \
+        struct task task = {run, \
+                            data, \
+                            copy, \
+                            (size_t)size, \
+                            (size_t)alignment, \
+                            (flags & TASK_DEFERRED) != 0, \
+                            (flags & TASK_FINAL) != 0}; \
         taskloops_do(&task, LOOP, flags, wanted, STACK_POINTER, CODE); \
     }
 TASKLOOP(GOMP_taskloop, loops_signed(start, end, step, 0), long start, long end, long step)
-TASKLOOP(GOMP_taskloop_ull, loops_unsigned((flags & TASK_COUNTS_UP) != 0, start, end, step, 0), unsigned long long start,
-         unsigned long long end, unsigned long long step)
+TASKLOOP(GOMP_taskloop_ull, loops_unsigned((flags & TASK_COUNTS_UP) != 0, start, end, step, 0),
+         unsigned long long start, unsigned long long end, unsigned long long step)
 
 #pragma GCC visibility pop

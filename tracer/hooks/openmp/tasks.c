@@ -44,7 +44,7 @@ void tasks_run(const struct task *task, const struct task_bounds *bounds, uintpt
     scope->final = is_final || task->final;
     parts_open(is_child ? FRAME_TASK_PART : FRAME_CALLED, stack_pointer, code);
     frames_note_part((struct frame_part){(uintptr_t)data, bounds ? "taskloop" : "task", bounds ? bounds->first : 0,
-                            bounds ? bounds->last : 0, false});
+                                         bounds ? bounds->last : 0, false});
     task->run(data);
     parts_close(code);
     if (is_child)

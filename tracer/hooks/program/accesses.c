@@ -28,7 +28,7 @@ static inline void any_access(bool writes, uintptr_t at, size_t size, __spbags_f
 }
 
 void accesses_note(bool writes, uintptr_t at, size_t size, __spbags_function self, uintptr_t stack_pointer,
-                 uintptr_t code) {
+                   uintptr_t code) {
     any_access(writes, at, size, self, stack_pointer, code);
 }
 
@@ -74,7 +74,8 @@ static inline void usual_granules(bool writes, uintptr_t at, size_t size, uintpt
         uint32_t *mark = (uint32_t *)((intptr_t)at + row);
         if (__builtin_expect(!are_repeats(writes, mark, size >> GRANULE_USUAL_SHIFT), 0))
             note_usual_marks(writes, at, size, mark, code);
-    } else if (row == 0 || !are_done(writes, (uint8_t *)row + (at >> GRANULE_USUAL_SHIFT), size >> GRANULE_USUAL_SHIFT)) {
+    } else if (row == 0 ||
+               !are_done(writes, (uint8_t *)row + (at >> GRANULE_USUAL_SHIFT), size >> GRANULE_USUAL_SHIFT)) {
         locations_touch_block(writes, at, at + size, code);
     }
 }
@@ -121,7 +122,8 @@ ACCESSES(8)
 ACCESSES(16)
 
 /* In a run that keeps places. */
-static inline void first_with_site(bool writes, const struct block_touched *in, unsigned granule, size_t count, uintptr_t code) {
+static inline void first_with_site(bool writes, const struct block_touched *in, unsigned granule, size_t count,
+                                   uintptr_t code) {
     const uint64_t site = places_site_word(false, code);
     recent_begin();
     strands_list(in);
@@ -130,8 +132,8 @@ static inline void first_with_site(bool writes, const struct block_touched *in, 
             strands_note_sites(writes, in, (uint64_t)1 << granule, site);
             blocks_set_bit(&in->done[granule], writes ? BLOCK_WROTE : BLOCK_READ);
         }
-    *strands_quick_sites_of(writes, in->done) =
-        (struct strand_quick_sites){strands_key_of_sites(writes, in->done), &strands_part.sites[in->block->place - 1][writes]};
+    *strands_quick_sites_of(writes, in->done) = (struct strand_quick_sites){
+        strands_key_of_sites(writes, in->done), &strands_part.sites[in->block->place - 1][writes]};
     recent_finish();
 }
 

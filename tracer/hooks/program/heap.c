@@ -106,8 +106,9 @@ static struct strand_lifetime_end end_of_lifetime(size_t span) {
     const struct span *of = &spans[span];
     size_t most = of->step > 0 ? granules_span_size / of->step : 1;
     return (struct strand_lifetime_end){.span = span,
-                             .dead = of->has_dead ? (unsigned)((most + BLOCK_GRANULES - 1) / BLOCK_GRANULES) : 0,
-                             .is_dead_used = of->is_dead_used};
+                                        .dead =
+                                            of->has_dead ? (unsigned)((most + BLOCK_GRANULES - 1) / BLOCK_GRANULES) : 0,
+                                        .is_dead_used = of->is_dead_used};
 }
 
 /* No granule of the span has an access any more. */
@@ -311,7 +312,8 @@ static void die(uintptr_t block, size_t size) {
 }
 
 void heap_end_block(void *block, __spbags_function self, uintptr_t stack_pointer, uintptr_t code) {
-    if (!block || !doing.tracing || frames_initialising > 0 || (frames_is_on_the_way(self) && stack_pointer < frames_top->end))
+    if (!block || !doing.tracing || frames_initialising > 0 ||
+        (frames_is_on_the_way(self) && stack_pointer < frames_top->end))
         return;
     procedures_leave_jumped(stack_pointer, code);
     if (frames_is_on_the_way(self))
@@ -395,7 +397,9 @@ size_t malloc_usable_size(void *block) { return block ? head_of(block)->size : 0
 
 void *malloc(size_t size) { return BLOCK(0, size); }
 
-static bool is_zero(uintptr_t block) { return granules_span_at(block) >= GRANULE_SPANS || granules_lifetimes.of[granules_span_at(block)] == 0; }
+static bool is_zero(uintptr_t block) {
+    return granules_span_at(block) >= GRANULE_SPANS || granules_lifetimes.of[granules_span_at(block)] == 0;
+}
 
 void *calloc(size_t count, size_t size) {
     size_t whole;

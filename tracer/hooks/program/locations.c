@@ -68,7 +68,8 @@ void locations_note_stack(bool writes, uintptr_t address, uint32_t *mark, unsign
     records_put_access(writes, location, address, code);
 }
 
-void locations_note_granule(bool writes, const struct block_touched *in, unsigned granule, uintptr_t address, uintptr_t code) {
+void locations_note_granule(bool writes, const struct block_touched *in, unsigned granule, uintptr_t address,
+                            uintptr_t code) {
     const uint64_t bit = (uint64_t)1 << granule;
     if ((in->block->dead & bit) != 0) {
         callbacks.use_dead(writes, address, code);
@@ -91,7 +92,7 @@ static void note_quickly(const struct block_touched *in) { blocks_set(in->done, 
 
 /* Granules of a block, of which the first one begins at this address. */
 __attribute__((noinline)) static void note_granules(bool writes, uintptr_t address, struct block_part part,
-                                                 uintptr_t code) {
+                                                    uintptr_t code) {
     uint64_t granules = blocks_new(writes, part.in.done, part.granules);
     const struct block *block = part.in.block;
     if (granules != 0 && strands_noted_quickly && (granules & block->dead) == 0 && !block->has_own &&
@@ -103,14 +104,15 @@ __attribute__((noinline)) static void note_granules(bool writes, uintptr_t addre
     }
     for (; granules != 0; granules &= granules - 1) {
         unsigned granule = (unsigned)__builtin_ctzll(granules);
-        locations_note_granule(writes, &part.in, granule, (address & ~(blocks_size() - 1)) + ((uintptr_t)granule << granules_shift),
-                            code);
+        locations_note_granule(writes, &part.in, granule,
+                               (address & ~(blocks_size() - 1)) + ((uintptr_t)granule << granules_shift), code);
     }
 }
 
 /* Those that this memory of the stack touches; what isn't of the stack any more. */
 static uintptr_t touch_stack(bool writes, uintptr_t granule, uintptr_t end, uintptr_t code) {
-    for (uint32_t *mark = marks_at(granule); granule < end && stacks_have(granule); granule += granules_mask + 1, mark++)
+    for (uint32_t *mark = marks_at(granule); granule < end && stacks_have(granule);
+         granule += granules_mask + 1, mark++)
         if (!marks_is_repeat(writes, *mark))
             locations_note_stack_granule(writes, granule, mark, granules_shift, code);
     return granule;
@@ -151,5 +153,6 @@ void locations_tell_partial(void) {
         tell_numbered("unit", granule).text,
         "%llu access%s less than a unit of %u bytes, so races may be only of neighbours: SPBAGS_UNIT=%u separates "
         "them",
-        (unsigned long long)partial_accesses, partial_accesses == 1 ? " touches" : "es touch", 1u << granules_shift, granule);
+        (unsigned long long)partial_accesses, partial_accesses == 1 ? " touches" : "es touch", 1u << granules_shift,
+        granule);
 }

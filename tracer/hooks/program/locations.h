@@ -94,7 +94,8 @@ void locations_note_stack(bool writes, uintptr_t address, uint32_t *mark, unsign
 
 /* Whether there is nothing else to do. */
 static inline bool locations_is_noted_quickly(uintptr_t address, const uint32_t *mark) {
-    return strands_stack_noted_quickly && stacks_is_of_running(address) && !(*mark == MARK_UNTOUCHED && steps_is_window_full());
+    return strands_stack_noted_quickly && stacks_is_of_running(address) &&
+           !(*mark == MARK_UNTOUCHED && steps_is_window_full());
 }
 
 /* Then this is done in a step; the location, whose record comes now. */
@@ -111,7 +112,8 @@ ALWAYS_INLINE uint64_t locations_quick(bool writes, uintptr_t address, uint32_t 
 }
 
 /* Without calls on the way where there is nothing else to do. */
-ALWAYS_INLINE void locations_note_stack_granule(bool writes, uintptr_t address, uint32_t *mark, unsigned shift, uintptr_t code) {
+ALWAYS_INLINE void locations_note_stack_granule(bool writes, uintptr_t address, uint32_t *mark, unsigned shift,
+                                                uintptr_t code) {
     if (__builtin_expect(!locations_is_noted_quickly(address, mark), 0)) {
         locations_note_stack(writes, address, mark, shift, code);
         return;
@@ -122,7 +124,8 @@ ALWAYS_INLINE void locations_note_stack_granule(bool writes, uintptr_t address, 
 }
 
 /* A granule of a block that is accessed. That of a heap block that has died is the heap's matter. */
-void locations_note_granule(bool writes, const struct block_touched *in, unsigned granule, uintptr_t address, uintptr_t code);
+void locations_note_granule(bool writes, const struct block_touched *in, unsigned granule, uintptr_t address,
+                            uintptr_t code);
 
 /* Nothing of the block has been accessed, and it is the program's alone. From now on the first accesses to its granules
    are noted quickly, and these are noted. */
@@ -141,8 +144,8 @@ static inline bool locations_is_looked_at(const struct block_touched *in) {
 
 static inline bool locations_may_begin_quick(const struct block_touched *in) {
     const struct block *block = in->block;
-    return strands_noted_quickly && block->place == 0 && block->dead == 0 && !block->has_own && !locations_is_looked_at(in) &&
-           !doing.keeping_places;
+    return strands_noted_quickly && block->place == 0 && block->dead == 0 && !block->has_own &&
+           !locations_is_looked_at(in) && !doing.keeping_places;
 }
 
 /* What this memory touches of the block in which it begins; the end of that. */

@@ -253,8 +253,8 @@ void __spbags_stored(const volatile void *at, unsigned long size, const volatile
     struct frame *frame = frames_top;
     const uintptr_t granule = (uintptr_t)at;
     uint32_t *mark = marks_at_usual(granule);
-    if (!returns_short_way(frame, result, STACK_POINTER, 2) || frames_short_way_bits == 0 || size != 1 << GRANULE_USUAL_SHIFT ||
-        (granule & (size - 1)) != 0 || !locations_is_noted_quickly(granule, mark)) {
+    if (!returns_short_way(frame, result, STACK_POINTER, 2) || frames_short_way_bits == 0 ||
+        size != 1 << GRANULE_USUAL_SHIFT || (granule & (size - 1)) != 0 || !locations_is_noted_quickly(granule, mark)) {
         store_and_return(granule, size, result, result_size, STACK_POINTER, CODE);
         return;
     }

@@ -30,7 +30,8 @@ static void note_granules(bool writes, uintptr_t at, uintptr_t end, uintptr_t co
             return;
         }
         uintptr_t block_end = (at | (blocks_size() - 1)) + 1, last = end < block_end ? end : block_end;
-        uint8_t *done = (uint8_t *)((uintptr_t)(row + (intptr_t)(at >> GRANULE_USUAL_SHIFT)) & ~(uintptr_t)(BLOCK_GRANULES - 1));
+        uint8_t *done =
+            (uint8_t *)((uintptr_t)(row + (intptr_t)(at >> GRANULE_USUAL_SHIFT)) & ~(uintptr_t)(BLOCK_GRANULES - 1));
         uint64_t granules = blocks_granules_from(blocks_granule_at(at), (last - at) >> GRANULE_USUAL_SHIFT),
                  new = blocks_new(writes, done, granules);
         if (new != 0 && (new & ~blocks_granules_with(done, BLOCK_QUICK)) == 0)
@@ -91,7 +92,8 @@ static void note_range(bool writes, uintptr_t at, size_t size, const struct dime
     while (first < used && (size_t)list[first].step == piece)
         piece *= list[first++].count;
     const uintptr_t mask = ((uintptr_t)1 << GRANULE_USUAL_SHIFT) - 1;
-    struct accesses all = {writes, stack_pointer < frames_short_way_end, ((at | size) & mask) == 0, size, stack_pointer, code};
+    struct accesses all = {writes, stack_pointer < frames_short_way_end, ((at | size) & mask) == 0, size, stack_pointer,
+                           code};
     for (int number = first; number < used; number++)
         all.is_usual &= ((uintptr_t)list[number].step & mask) == 0;
     note_dimensions(&all, at, piece, list + first, (unsigned)(used - first));

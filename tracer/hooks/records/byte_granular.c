@@ -41,8 +41,8 @@ static void follow_granule(struct byte_granular *granule, bool writes) {
     course_granule(writes, granule->location);
 }
 
-bool byte_granular_access(bool writes, const struct block_touched *in, uint64_t location, uintptr_t address, uintptr_t code,
-                    byte_granular_put *put) {
+bool byte_granular_access(bool writes, const struct block_touched *in, uint64_t location, uintptr_t address,
+                          uintptr_t code, byte_granular_put *put) {
     struct byte_granular *granule = slot_of_granule(location);
     if (granule->location == 0)
         return false;

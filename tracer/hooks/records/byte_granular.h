@@ -14,8 +14,8 @@ void byte_granular_begin(int file);
 /* What puts the record of a byte. */
 typedef void byte_granular_put(bool writes, uint64_t location, uintptr_t address, uintptr_t code);
 /* Whether the granule with this location is byte-granular, and then the record of each of its bytes is put. */
-bool byte_granular_access(bool writes, const struct block_touched *in, uint64_t location, uintptr_t address, uintptr_t code,
-                    byte_granular_put *put);
+bool byte_granular_access(bool writes, const struct block_touched *in, uint64_t location, uintptr_t address,
+                          uintptr_t code, byte_granular_put *put);
 /* Memory of the stack that has no variable any more, and whose granule has: those bytes get other locations. */
 __attribute__((cold)) void byte_granular_clear(uintptr_t address, uintptr_t end);
 /* Numbers of strands begin again. */

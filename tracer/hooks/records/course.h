@@ -83,7 +83,8 @@ static inline void course_granule(bool writes, uint64_t location) {
     if (location % 2 == 1)
         course_stack(writes, location);
     else
-        course_granules(location & ~(uint64_t)(2 * BLOCK_GRANULES - 1), (uint64_t)!writes << granule, (uint64_t)writes << granule);
+        course_granules(location & ~(uint64_t)(2 * BLOCK_GRANULES - 1), (uint64_t)!writes << granule,
+                        (uint64_t)writes << granule);
 }
 
 /* An access, be it a repeat or not, that doesn't fill its granules, to what isn't a thread's own. */

@@ -58,7 +58,8 @@ uint32_t guards_find_list(void) {
 enum { READER = 1 };
 
 static bool excludes(uintptr_t one, uintptr_t other) {
-    return one == other ? one == GUARD_ATOMIC || !(one & READER) : (one ^ other) == READER && (one & ~(uintptr_t)READER) != 0;
+    return one == other ? one == GUARD_ATOMIC || !(one & READER)
+                        : (one ^ other) == READER && (one & ~(uintptr_t)READER) != 0;
 }
 
 const struct guard *guards_find(uint32_t list, uintptr_t id) {

@@ -90,7 +90,12 @@ static inline void guards_leave(uintptr_t id) {
 /* ---- Lists ---- */
 
 /* What was held at once, each list once. The list 0 is empty. Where there are too many, what is held can't be told. */
-enum { GUARD_MOST_LISTS = 1 << 17, GUARD_LIST_SLOTS = 2 * GUARD_MOST_LISTS, GUARD_UNKNOWN_LIST = GUARD_MOST_LISTS, GUARD_MOST_LISTED = 1 << 21 };
+enum {
+    GUARD_MOST_LISTS = 1 << 17,
+    GUARD_LIST_SLOTS = 2 * GUARD_MOST_LISTS,
+    GUARD_UNKNOWN_LIST = GUARD_MOST_LISTS,
+    GUARD_MOST_LISTED = 1 << 21
+};
 struct guard_list {
     uint32_t first, length;
 };

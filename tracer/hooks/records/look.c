@@ -253,8 +253,8 @@ static bool is_racy(uint64_t first, uint64_t last) {
 
 /* The same of a unit's location up to that of another one, or of a byte of them. */
 static bool has_race(uint64_t first, uint64_t last) {
-    return is_racy(first, last) ||
-           is_racy(granules_first_byte + GRANULE_MOST_BYTES * first, granules_first_byte + GRANULE_MOST_BYTES * last + GRANULE_MOST_BYTES - 1);
+    return is_racy(first, last) || is_racy(granules_first_byte + GRANULE_MOST_BYTES * first,
+                                           granules_first_byte + GRANULE_MOST_BYTES * last + GRANULE_MOST_BYTES - 1);
 }
 
 static uint64_t site_of(uintptr_t code, uint32_t node) {
@@ -538,7 +538,8 @@ static void put_owner(struct owner owner) {
 }
 
 static bool owner_goes_on(struct owner before, struct owner owner) {
-    return owner.code == before.code && (owner.code == 0 || owner.offset == before.offset + (intptr_t)granules_mask + 1);
+    return owner.code == before.code &&
+           (owner.code == 0 || owner.offset == before.offset + (intptr_t)granules_mask + 1);
 }
 
 /* Whether the calls down to both of these are the same: a loop may make one again and again. */
@@ -714,7 +715,8 @@ static void read_races(int file) {
     allocations = memory_reserve((races_count + 1) * sizeof *allocations);
     for (struct race *race = races; race < races + races_count; race++, at += OF_RACE) {
         *race = (struct race){.location = at[0], .first = look_at(at[1]), .second = look_at(at[2])};
-        uint64_t filter = filter_at(at[0]), block = look_block_bit(granules_of(at[0]) & ~(uint64_t)(2 * BLOCK_GRANULES - 1));
+        uint64_t filter = filter_at(at[0]),
+                 block = look_block_bit(granules_of(at[0]) & ~(uint64_t)(2 * BLOCK_GRANULES - 1));
         race_filter[filter / 64] |= (uint64_t)1 << filter % 64;
         look_blocks[block / 64] |= (uint64_t)1 << block % 64;
     }

@@ -17,7 +17,8 @@ uint16_t places_find_site(uint64_t word) {
     while (places_site_keys[slot] != word + 1 && places_site_keys[slot] != 0)
         slot = (slot + 1) % PLACES_SITE_SLOTS;
     if (places_site_keys[slot] == 0) {
-        if (sites_count >= PLACES_MOST_SITES - PLACES_FREE_SITES && (word & no_list) != 0 && (word & no_list) != no_list)
+        if (sites_count >= PLACES_MOST_SITES - PLACES_FREE_SITES && (word & no_list) != 0 &&
+            (word & no_list) != no_list)
             return places_find_site(word | no_list);
         if (sites_count == PLACES_MOST_SITES)
             return PLACES_NO_SITE;

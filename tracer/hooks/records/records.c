@@ -51,7 +51,8 @@ static void begin_byte(bool writes, uint64_t location, uintptr_t address, uintpt
 void records_access(bool writes, const struct block_touched *in, uint64_t location, uintptr_t address, uintptr_t code) {
     recent_begin_one();
     news += in != NULL;
-    if (!__builtin_expect(byte_granular_any, 0) || !byte_granular_access(writes, in, location, address, code, begin_byte)) {
+    if (!__builtin_expect(byte_granular_any, 0) ||
+        !byte_granular_access(writes, in, location, address, code, begin_byte)) {
         uint64_t site = doing.keeping_places ? records_site(address, code) : 0;
         course_granule(writes, location);
         begin_access(writes, in, location, address, code, site);

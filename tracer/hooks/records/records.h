@@ -23,12 +23,13 @@ static inline void records_step(bool writes, uint64_t location, uintptr_t addres
         look_note_pending(writes, location, address, code);
     course_stack(writes, location);
     steps_put_at(writes ? SPBAGS_WRITE : SPBAGS_READ, location,
-            __builtin_expect(doing.keeping_places, 0) ? places_site_number(records_site(address, code)) : 0);
+                 __builtin_expect(doing.keeping_places, 0) ? places_site_number(records_site(address, code)) : 0);
     recent_finish();
 }
 
 /* These granules of a block have been accessed, in a plain run. None of them is accessed in part if places are kept. */
-static inline void records_note_in_block(bool writes, const struct block_touched *in, uint64_t granules, uintptr_t code) {
+static inline void records_note_in_block(bool writes, const struct block_touched *in, uint64_t granules,
+                                         uintptr_t code) {
     recent_begin();
     strands_list(in);
     if (__builtin_expect(doing.keeping_places, 0))
@@ -38,7 +39,7 @@ static inline void records_note_in_block(bool writes, const struct block_touched
 }
 
 static inline void records_note_one(bool writes, const struct block_touched *in, unsigned granule, uintptr_t address,
-                                     uintptr_t code) {
+                                    uintptr_t code) {
     recent_begin();
     strands_list(in);
     if (__builtin_expect(doing.looking, 0))
@@ -57,8 +58,8 @@ static inline void records_put_access(bool writes, uint64_t location, uintptr_t 
 }
 
 /* Of the granule in its block. */
-static inline void records_put_in_block(bool writes, const struct block_touched *in, unsigned granule, uintptr_t address,
-                                uintptr_t code) {
+static inline void records_put_in_block(bool writes, const struct block_touched *in, unsigned granule,
+                                        uintptr_t address, uintptr_t code) {
     if (__builtin_expect(doing.plain, 1))
         records_note_one(writes, in, granule, address, code);
     else

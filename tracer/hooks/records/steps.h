@@ -27,7 +27,9 @@ extern struct steps_dying { uint64_t members[STEPS_WINDOW_NUMBERS / 64], first, 
 
 static inline uint64_t steps_in_window(uint64_t number) { return number - steps_window_number - 1; }
 
-static inline bool steps_is_window_full(void) { return steps_last_number - steps_window_number >= STEPS_WINDOW_NUMBERS; }
+static inline bool steps_is_window_full(void) {
+    return steps_last_number - steps_window_number >= STEPS_WINDOW_NUMBERS;
+}
 
 /* Whether the number is of the window, and then it dies. A handler of a signal may have given one more number than the
    window has. */
@@ -98,7 +100,9 @@ enum { STEPS_SITE_SHIFT = 48 };
 static const uint64_t steps_without_site = ((uint64_t)1 << STEPS_SITE_SHIFT) - 1;
 
 /* Before the pause. */
-static inline void steps_put_quickly(unsigned kind, uint64_t location) { *steps_next++ = spbags_record(kind, location); }
+static inline void steps_put_quickly(unsigned kind, uint64_t location) {
+    *steps_next++ = spbags_record(kind, location);
+}
 
 static inline void steps_put_at(unsigned kind, uint64_t location, uint64_t site) {
     *steps_next++ = spbags_record(kind, location) | site << STEPS_SITE_SHIFT;

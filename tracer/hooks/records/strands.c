@@ -16,7 +16,8 @@ static bool is_left(struct block_touched touched) {
     if (!touched.block)
         return false;
     touched.block->place = 0;
-    return (blocks_granules_with(touched.done, BLOCK_READ) | blocks_granules_with(touched.done, BLOCK_WROTE)) != 0 || touched.block->is_byte_granular;
+    return (blocks_granules_with(touched.done, BLOCK_READ) | blocks_granules_with(touched.done, BLOCK_WROTE)) != 0 ||
+           touched.block->is_byte_granular;
 }
 
 /* The blocks of which nothing is left make room for others. */
@@ -80,7 +81,7 @@ void strands_follow_views(bool are_there) {
 /* What a plain run has done with these granules, which doesn't go out, is of its course. */
 static void follow(const struct block_touched *touched, uint64_t granules) {
     course_granules(touched->location, blocks_granules_with(touched->done, BLOCK_READ) & granules,
-                 blocks_granules_with(touched->done, BLOCK_WROTE) & granules);
+                    blocks_granules_with(touched->done, BLOCK_WROTE) & granules);
 }
 
 void strands_set_dead(uintptr_t address, uintptr_t end) {
@@ -123,7 +124,8 @@ static inline uint16_t site_of_granule(const struct strand_sites *sites, unsigne
 static void put_accesses(bool writes) {
     const struct block_touched *touched = going_out.block;
     const struct strand_sites *sites = sites_going_out(writes);
-    for (uint64_t granules = going_out.granules[writes]; granules != 0; going_out.granules[writes] = granules &= granules - 1) {
+    for (uint64_t granules = going_out.granules[writes]; granules != 0;
+         going_out.granules[writes] = granules &= granules - 1) {
         unsigned granule = (unsigned)__builtin_ctzll(granules);
         uint64_t location = touched->location + 2 * granule;
         if (doing.plain && !doing.looking && !doing.keeping_places)

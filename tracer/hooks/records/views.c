@@ -99,7 +99,8 @@ enum view_update views_update_of(uintptr_t granule, unsigned shift, bool repeats
         return VIEW_NO_UPDATE;
     if (!repeats && view->wrote == VIEW_BEGINS)
         view->wrote = MARK_TOUCHED;
-    return view->first <= granule && granule + ((uintptr_t)1 << shift) <= view->end ? VIEW_UPDATES_GRANULE : VIEW_UPDATES_PART;
+    return view->first <= granule && granule + ((uintptr_t)1 << shift) <= view->end ? VIEW_UPDATES_GRANULE
+                                                                                    : VIEW_UPDATES_PART;
 }
 
 void views_forget(void) {

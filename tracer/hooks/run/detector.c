@@ -57,7 +57,8 @@ static uint64_t *hand_over(const uint64_t *end) {
 /* ---- What the detector's thread does ---- */
 __attribute__((noinline, cold, noreturn)) static void refuse_step(unsigned status) {
     if (status == SPBAGS_NO_MEMORY)
-        tell_fault("out of memory: the detector needs more than the system gives, so the run ends here without a report");
+        tell_fault(
+            "out of memory: the detector needs more than the system gives, so the run ends here without a report");
     tell_fault("the detector rejected a record with status %u, so the run ends here without a report", status);
 }
 

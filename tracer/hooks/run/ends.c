@@ -74,10 +74,11 @@ void ends_at_limit(void) {
     uint64_t most = output_of_run.most;
     records_drop();
     end_outcome();
-    tell_fault_by(tell_numbered("end limit", most).text,
-            "the trace has reached its limit of %llu bytes, so the run ends here, and the trace has what came before: "
-            "SPBAGS_MAX_BYTES sets another limit",
-            (unsigned long long)most);
+    tell_fault_by(
+        tell_numbered("end limit", most).text,
+        "the trace has reached its limit of %llu bytes, so the run ends here, and the trace has what came before: "
+        "SPBAGS_MAX_BYTES sets another limit",
+        (unsigned long long)most);
 }
 
 /* ---- The program ends ---- */
@@ -218,7 +219,8 @@ int __real_daemon(int stays, int keeps);
 int __wrap_daemon(int stays, int keeps) {
     if (ends_is_traced()) {
         refuse_amid_record();
-        tell_record("end daemon", "the program becomes a daemon, and the %s has what came before", doing_outcome_name());
+        tell_record("end daemon", "the program becomes a daemon, and the %s has what came before",
+                    doing_outcome_name());
         ends_racy();
     }
     return __real_daemon(stays, keeps);

@@ -34,7 +34,9 @@ intptr_t blocks_other_row(size_t region) {
 struct block_touched blocks_dead(size_t span, size_t number) {
     intptr_t row = blocks_row_of(granules_span_first(span));
     size_t at = (span % BLOCK_REGION_SPANS * BLOCK_DEAD_BLOCKS + number / BLOCK_GRANULES) * BLOCK_GRANULES;
-    uint8_t *done = (uint8_t *)row + ((granules_span_first(span) & ~blocks_region_mask) >> granules_shift) + blocks_region_granules() + at;
-    uint64_t location = 2 * ((granules_name_of_dead(span) >> granules_shift) + (number & ~(size_t)(BLOCK_GRANULES - 1)));
+    uint8_t *done = (uint8_t *)row + ((granules_span_first(span) & ~blocks_region_mask) >> granules_shift) +
+                    blocks_region_granules() + at;
+    uint64_t location =
+        2 * ((granules_name_of_dead(span) >> granules_shift) + (number & ~(size_t)(BLOCK_GRANULES - 1)));
     return (struct block_touched){blocks_of_row(row, granules_span_first(span), done), done, location};
 }

@@ -23,7 +23,12 @@ struct block {
 
 /* What is known of a region of memory comes with its first access: a byte for each granule, and for each heap block
    that may die in the strand of its birth, so many blocks of them for each span; and then these blocks. */
-enum { BLOCK_REGION_BITS = 24, BLOCK_REGIONS = 1 << 23, BLOCK_REGION_SPANS = 1 << (BLOCK_REGION_BITS - GRANULE_SPAN_BITS), BLOCK_DEAD_BLOCKS = 64 };
+enum {
+    BLOCK_REGION_BITS = 24,
+    BLOCK_REGIONS = 1 << 23,
+    BLOCK_REGION_SPANS = 1 << (BLOCK_REGION_BITS - GRANULE_SPAN_BITS),
+    BLOCK_DEAD_BLOCKS = 64
+};
 static const uintptr_t blocks_region_mask = ((uintptr_t)1 << BLOCK_REGION_BITS) - 1;
 
 /* Where the byte of the granule 0 would stand, if a region's bytes went on; or 0 where it has none. Of a region of the
@@ -34,11 +39,15 @@ __attribute__((cold)) intptr_t blocks_other_row(size_t region);
 /* So many regions from this one on are of the stack. */
 void blocks_begin_stack(size_t region, size_t count);
 
-static inline size_t blocks_region_of(uintptr_t address) { return (address >> BLOCK_REGION_BITS) & (BLOCK_REGIONS - 1); }
+static inline size_t blocks_region_of(uintptr_t address) {
+    return (address >> BLOCK_REGION_BITS) & (BLOCK_REGIONS - 1);
+}
 
 static inline size_t blocks_region_granules(void) { return ((size_t)1 << BLOCK_REGION_BITS) >> granules_shift; }
 
-static inline size_t blocks_region_bytes(void) { return blocks_region_granules() + (size_t)BLOCK_REGION_SPANS * BLOCK_DEAD_BLOCKS * BLOCK_GRANULES; }
+static inline size_t blocks_region_bytes(void) {
+    return blocks_region_granules() + (size_t)BLOCK_REGION_SPANS * BLOCK_DEAD_BLOCKS * BLOCK_GRANULES;
+}
 
 static inline intptr_t blocks_row_of(uintptr_t address) {
     intptr_t row = blocks_regions[blocks_region_of(address)];
@@ -65,8 +74,10 @@ static inline uintptr_t blocks_size(void) { return (uintptr_t)BLOCK_GRANULES << 
 
 static inline struct block_touched blocks_at(uintptr_t address) {
     intptr_t row = blocks_row_of(address);
-    uint8_t *done = (uint8_t *)((uintptr_t)(row + (intptr_t)(address >> granules_shift)) & ~(uintptr_t)(BLOCK_GRANULES - 1));
-    return (struct block_touched){blocks_of_row(row, address, done), done, blocks_location(address & ~(blocks_size() - 1))};
+    uint8_t *done =
+        (uint8_t *)((uintptr_t)(row + (intptr_t)(address >> granules_shift)) & ~(uintptr_t)(BLOCK_GRANULES - 1));
+    return (struct block_touched){blocks_of_row(row, address, done), done,
+                                  blocks_location(address & ~(blocks_size() - 1))};
 }
 
 /* The block of this heap block of a span, where that has died in the strand of its birth. */
@@ -88,7 +99,8 @@ static inline bool blocks_was_done(bool writes, uint8_t done) {
 
 /* What isn't a repeat of these. */
 static inline uint64_t blocks_new(bool writes, const uint8_t *done, uint64_t granules) {
-    return granules & ~(blocks_granules_with(done, BLOCK_WROTE) | (writes ? 0 : blocks_granules_with(done, BLOCK_READ)));
+    return granules &
+           ~(blocks_granules_with(done, BLOCK_WROTE) | (writes ? 0 : blocks_granules_with(done, BLOCK_READ)));
 }
 
 /* Each in one step, so that what a handler of a signal sets meanwhile stays. */
@@ -133,7 +145,9 @@ static inline void blocks_clear(uint8_t *done, uint64_t granules, uint8_t bit) {
 /* ---- The blocks of some memory ---- */
 
 /* From 1 to 64 granules, from this one on. */
-static inline uint64_t blocks_granules_from(unsigned first, size_t count) { return UINT64_MAX >> (BLOCK_GRANULES - count) << first; }
+static inline uint64_t blocks_granules_from(unsigned first, size_t count) {
+    return UINT64_MAX >> (BLOCK_GRANULES - count) << first;
+}
 
 static inline unsigned blocks_granule_at(uintptr_t address) { return address >> granules_shift & (BLOCK_GRANULES - 1); }
 

@@ -15,7 +15,15 @@ enum { FRAME_MOST_DEPTH = 1000000, FRAME_DEFAULT_DEPTH = 65536 };
 
 /* A scope is a part of a function that waits for its own children. The last three are parts of OpenMP, whose procedures
    are no matter of frames: a function that the hooks call, a task, and some iterations of a loop. */
-enum frame_kind { FRAME_FUNCTION, FRAME_ROOT, FRAME_CHILD, FRAME_SCOPE, FRAME_CALLED, FRAME_TASK_PART, FRAME_LOOP_PART };
+enum frame_kind {
+    FRAME_FUNCTION,
+    FRAME_ROOT,
+    FRAME_CHILD,
+    FRAME_SCOPE,
+    FRAME_CALLED,
+    FRAME_TASK_PART,
+    FRAME_LOOP_PART
+};
 enum { FRAME_NONE = 0 };
 
 /* An active function, or a child that was spawned: the child's frame stands below the frame of the function that it
@@ -54,7 +62,9 @@ extern struct frame *frames_grouped;
 /* How many local statics of C++ are being initialised, while nothing is recorded. */
 extern unsigned frames_initialising;
 
-static inline bool frames_is_of_function(const struct frame *frame) { return frame->kind == FRAME_FUNCTION || frame->kind == FRAME_SCOPE; }
+static inline bool frames_is_of_function(const struct frame *frame) {
+    return frame->kind == FRAME_FUNCTION || frame->kind == FRAME_SCOPE;
+}
 
 /* An access goes the short way where the stack pointer is below this: accesses are recorded by the usual granule and
    not watched, no child waits for what it calls, and the newest frame hasn't ended. */

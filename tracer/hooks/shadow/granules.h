@@ -56,9 +56,13 @@ bool granules_begin_lifetimes(void);
 void granules_need_lifetimes(void);
 
 /* The number of the span that has this address, or GRANULE_SPANS or more where none has. */
-static inline size_t granules_span_at(uintptr_t address) { return (address - granules_first_span) >> GRANULE_SPAN_BITS; }
+static inline size_t granules_span_at(uintptr_t address) {
+    return (address - granules_first_span) >> GRANULE_SPAN_BITS;
+}
 
-static inline uintptr_t granules_span_first(size_t span) { return granules_first_span + ((uintptr_t)span << GRANULE_SPAN_BITS); }
+static inline uintptr_t granules_span_first(size_t span) {
+    return granules_first_span + ((uintptr_t)span << GRANULE_SPAN_BITS);
+}
 
 static inline void granules_begin_lifetime(size_t span) { granules_lifetimes.of[span] = ++granules_lifetimes.newest; }
 
@@ -68,7 +72,8 @@ static inline uintptr_t granules_name(uintptr_t address) {
     size_t span = granules_span_at(address);
     if (span >= GRANULE_SPANS || granules_lifetimes.of[span] == 0)
         return address;
-    return first_lifetime + ((uintptr_t)granules_lifetimes.of[span] << GRANULE_SPAN_BITS) + address % granules_span_size;
+    return first_lifetime + ((uintptr_t)granules_lifetimes.of[span] << GRANULE_SPAN_BITS) +
+           address % granules_span_size;
 }
 
 /* The accesses of a block that died in the strand in which it was born are left out. Where it is used nevertheless,

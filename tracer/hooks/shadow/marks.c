@@ -17,7 +17,8 @@ static void name_marks(size_t region) {
 }
 
 void marks_begin(uintptr_t first, uintptr_t end) {
-    size_t first_region = blocks_region_of(first - (MARK_CLEARED << granules_shift)), count = blocks_region_of(end) - first_region + 1;
+    size_t first_region = blocks_region_of(first - (MARK_CLEARED << granules_shift)),
+           count = blocks_region_of(end) - first_region + 1;
     uintptr_t marks = (uintptr_t)memory_reserve((count << BLOCK_REGION_BITS >> granules_shift) * sizeof(uint32_t));
     marks_of_stack = marks - (first_region << BLOCK_REGION_BITS >> granules_shift) * sizeof(uint32_t);
     blocks_begin_stack(first_region, count);

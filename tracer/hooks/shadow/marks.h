@@ -24,7 +24,9 @@ extern uint32_t marks_again;
    repeat. No other mark is above that of a write in the current strand. */
 static const uint32_t marks_own = UINT32_MAX;
 
-static inline bool marks_is_repeat(bool writes, uint32_t mark) { return writes ? mark > marks_read : mark >= marks_read; }
+static inline bool marks_is_repeat(bool writes, uint32_t mark) {
+    return writes ? mark > marks_read : mark >= marks_read;
+}
 
 static inline uint32_t marks_new(bool writes) { return marks_read + writes; }
 

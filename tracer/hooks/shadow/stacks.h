@@ -56,7 +56,9 @@ static inline struct stack *stacks_find(uintptr_t address) {
 /* A granule of a stack that doesn't run has a number from now on. */
 __attribute__((cold)) void stacks_lower_other(uintptr_t address);
 
-static inline bool stacks_is_of_running(uintptr_t address) { return address - stacks_running_first < stacks_running_size; }
+static inline bool stacks_is_of_running(uintptr_t address) {
+    return address - stacks_running_first < stacks_running_size;
+}
 
 /* A granule of the stack has a number from now on, of the one that runs or of any. */
 static inline void stacks_lower_running(uintptr_t address) {

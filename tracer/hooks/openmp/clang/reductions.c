@@ -69,7 +69,8 @@ static void end_reductions(uintptr_t *array, uintptr_t stack_pointer, uintptr_t 
         return;
     parts_open(FRAME_CALLED, stack_pointer, code);
     for (uintptr_t number = 0; number < array[REDUCTION_VARIABLES]; number++) {
-        uintptr_t *variable = array + REDUCTION_FIRST + number * REDUCTION_WORDS_EACH, copy = reductions_copy_of(array, variable);
+        uintptr_t *variable = array + REDUCTION_FIRST + number * REDUCTION_WORDS_EACH,
+                  copy = reductions_copy_of(array, variable);
         const struct clang_reduction *of = (const struct clang_reduction *)variable[2];
         if (!header_of_copy(copy)->begun)
             continue;
