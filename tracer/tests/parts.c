@@ -239,7 +239,7 @@ static void marks_repeats(void) {
 }
 
 /* What is a thread's own has no records, also when the numbers of strands begin again. */
-static void marks_own(void) {
+static void marks_own_memory(void) {
     make_stack();
     own_copies = (struct own_memory){memory_granule(3), memory_granule(5)};
     own_add(own_copies);
@@ -282,7 +282,7 @@ void recent_leave_out_dying(uintptr_t before) {
 }
 
 static bool has_ended(uint64_t number) {
-    const struct ended *ended = locations_place_of_ended(number);
+    const struct location_ended *ended = locations_place_of_ended(number);
     bool is_at_hand =
         number / STEPS_GROUP_NUMBERS == ended->group && (ended->members >> number % STEPS_GROUP_NUMBERS & 1) != 0;
     return is_ended[number] || is_at_hand;
@@ -506,7 +506,7 @@ int main(int count, char **words) {
         const char *name;
         void (*run)(void);
     } parts[] = {{"strand_blocks", strand_blocks},     {"strand_locations", strand_locations},
-                 {"marks_repeats", marks_repeats},     {"marks_own", marks_own},
+                 {"marks_repeats", marks_repeats},     {"marks_own", marks_own_memory},
                  {"marks_units", marks_granules},      {"stack_numbers", stack_numbers},
                  {"heap_blocks", heap_blocks},         {"heap_zero", heap_zero},
                  {"strand_left_out", strand_left_out}, {"stack_window", stack_window},
