@@ -23,7 +23,7 @@ BUILD = os.path.join(CRATES, "..", "build")
 
 
 def files_of_hooks() -> list[str]:
-    """As the tracer's folder has them, such as hooks/tell.c."""
+    """As the tracer's folder has them, such as hooks/base/tell.c."""
     folders = os.walk(os.path.join(HERE, "hooks"))
     return sorted(os.path.relpath(os.path.join(folder, name), HERE) for folder, _, names in folders for name in names)
 
@@ -69,7 +69,7 @@ class Hooks:
 
     def compile_source(self, name: str) -> str:
         made = os.path.join(self.folder, name.replace("/", "-") + ".o")
-        run(*self.compiler.command, *self.flags, f"-I{self.folder}", "-c", os.path.join(HERE, name), "-o", made)
+        run(*self.compiler.command, *self.flags, f"-I{self.folder}", f"-I{HERE}/hooks", "-c", os.path.join(HERE, name), "-o", made)
         return made
 
     def compile(self) -> str:
@@ -83,7 +83,7 @@ class Hooks:
                 file.write(text)
         names = [name for name in files_of_hooks() if name.endswith(".c")]
         if not self.words.openmp:
-            names = [name for name in names if not name.startswith("hooks/openmp")]
+            names = [name for name in names if not name.startswith("hooks/openmp/")]
         with ThreadPoolExecutor(len(os.sched_getaffinity(0))) as pool:
             objects = list(pool.map(self.compile_source, names))
         made = os.path.join(self.folder, "hooks.o")

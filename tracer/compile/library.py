@@ -57,9 +57,9 @@ class Function:
         ]
         if made and self.lock:
             made = [
-                f'enter_guard((uintptr_t)state({self.lock}), "the lock of {self.lock}");',
+                f'guards_enter((uintptr_t)state({self.lock}), "the lock of {self.lock}");',
                 *made,
-                f"leave_guard((uintptr_t)state({self.lock}));",
+                f"guards_leave((uintptr_t)state({self.lock}));",
             ]
         return ["    if (doing.tracing) {", *("        " + note for note in made), "    }"] if made else []
 

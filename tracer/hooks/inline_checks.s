@@ -1,8 +1,8 @@
 # The test for a repeat at an access, in place of the call of its hook: the compiler's plugin puts it there. The
-# address is in %rdi, and what a call may change is free. An access goes the short way, as in accesses.c, if
+# address is in %rdi, and what a call may change is free. An access goes the short way, as in program/accesses.c, if
 # the stack pointer is below the end of that way, and the address is a multiple of the size. A region of the stack has a row
-# below 0, and marks there: then a repeat calls nothing. Others have a byte for each unit: then a repeat calls nothing, nor
-# does the first access to units whose bytes say QUICK, which is the sign. It says there what is done before it
+# below 0, and marks there: then a repeat calls nothing. Others have a byte for each granule: then a repeat calls nothing, nor
+# does the first access to granules whose bytes say BLOCK_QUICK, which is the sign. It says there what is done before it
 # knows that, so that a handler of a signal between changes nothing; for all else `first` takes that back, `stack` is called
 # where not all marks are of repeats, and `long` for the rest.
 #
@@ -77,7 +77,7 @@
 .macro __spbags_write SIZE
 	__spbags_inline_check write, \SIZE, 2, 2, ja, jbe
 .endm
-# The same of a variable of the function itself: it has marks, whose addresses are as far apart as those of the usual units.
+# The same of a variable of the function itself: it has marks, whose addresses are as far apart as those of the usual granules.
 .macro __spbags_local_check KIND, SIZE, IS_REPEAT, IS_NONE
 	__spbags_global cmpq, __spbags_short_way_end, ", %rsp", %rax
 	jae 1f

@@ -98,7 +98,7 @@ def guard_of(text: str) -> Guard:
 
 
 def unpacked(packed: Iterable[int]) -> list[int]:
-    """The numbers of a block, by hooks/packing.h."""
+    """The numbers of a block, by hooks/records/packing.h."""
     numbers: list[int] = []
     rest = iter(packed)
     for new in rest:
@@ -109,9 +109,9 @@ def unpacked(packed: Iterable[int]) -> list[int]:
 
 
 class Places:
-    """A run's file of places: packed blocks of numbers of 2 bytes, by hooks/places.h; where each block ends, as how
-    many records and how many packed numbers stand before; the sites, the lists of guards, the lines of the report; and
-    how many of all these there are."""
+    """A run's file of places: packed blocks of numbers of 2 bytes, by hooks/records/places.h; where each block ends, as
+    how many records and how many packed numbers stand before; the sites, the lists of guards, the lines of the report;
+    and how many of all these there are."""
 
     END = struct.Struct("<QQQQQQ8s")
     MARK, TWO, REPEAT = b"spbplace", 0xFFFD, 0xFFFE

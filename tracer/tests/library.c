@@ -4,7 +4,7 @@
    The one behind it doesn't race, nor does a byte that both read. Each case stands on one line, and the program prints
    the line and how many bytes of it race. */
 #define _GNU_SOURCE
-#include "../hooks/library_types.h"
+#include "../hooks/base/library_types.h"
 #include <cilk/cilk.h>
 #include <ctype.h>
 #include <dlfcn.h>

@@ -1,12 +1,14 @@
 /* Parts of the hooks, each alone: the word names one, whose demands hold by the definitions. The compiler gets small
    limits of a strand and of their number. What stands here as a whole has variables that are looked at. */
-#include "../hooks/heap.c"
-#include "../hooks/locations.c"
+#include "program/heap.c"
+#include "program/locations.c"
 
-#include "../hooks/divided.h"
-#include "../hooks/formats.h"
-#include "../hooks/openmp.h"
-#include "../hooks/packing.h"
+#include "base/callbacks.h"
+#include "base/openmp.h"
+#include "library/formats.h"
+#include "records/byte_granular.h"
+#include "records/lines.h"
+#include "records/packing.h"
 #include "../spbags_cilk.h"
 
 #define DEMAND(HOLDS) \
@@ -22,40 +24,42 @@
 void __real__exit(int status) { _exit(status); }
 int __real_munmap(void *at, size_t size) { return munmap(at, size); }
 char __start_spbags_hooks[1], __stop_spbags_hooks[1];
-void signals_end_run(int number) { _exit(number); }
-volatile sig_atomic_t changes, changes_waiting_signal, changes_stepping;
-void changes_let_signal_end(void) {}
 struct doing doing = {.detecting = true};
 static struct frame root;
 struct frame *frames_top = &root, *frames_silent;
 unsigned frames_initialising;
-uintptr_t short_way_bits, short_way_end, short_way_first;
-void short_way_find(void) {}
-void frames_leave_left(uintptr_t address, uintptr_t code) { (void)address, (void)code; }
+uint32_t frames_procedures;
+uintptr_t frames_short_way_bits, frames_short_way_end, frames_short_way_first;
+void frames_find_short_way(void) {}
+void procedures_leave_left(uintptr_t address, uintptr_t code) { (void)address, (void)code; }
 
-bool divided_any, reducers_any;
-void divided_clear(uintptr_t address, uintptr_t end) { (void)address, (void)end; }
-void divided_forget(void) {}
-void reducers_forget(void) {}
-enum update reducers_update_of(uintptr_t unit, unsigned shift, bool repeats) {
-    (void)unit, (void)shift, (void)repeats;
-    return NO_UPDATE;
+static void forget_strands(void) {}
+const struct callbacks callbacks = {.forget_strands = forget_strands, .use_dead = heap_use_dead};
+
+bool byte_granular_any, views_any;
+void byte_granular_clear(uintptr_t address, uintptr_t end) { (void)address, (void)end; }
+enum view_update views_update_of(uintptr_t granule, unsigned shift, bool repeats) {
+    (void)granule, (void)shift, (void)repeats;
+    return VIEW_NO_UPDATE;
 }
 
-uint64_t *detector_hand_over(const uint64_t *end) { return (void)end, NULL; }
-uint64_t *records_write_out(const uint64_t *end) { return (void)end, NULL; }
-void changes_refuse_handler(void) { abort(); }
-void records_end_life(struct life_end end) { begin_life(end.span); }
-void look_at_block(uintptr_t block, size_t size, uintptr_t stack_pointer, uintptr_t code) {
-    (void)block, (void)size, (void)stack_pointer, (void)code;
+struct recent_records recent_records;
+void recent_pass_on(void) {}
+void look_at_block(uintptr_t block, size_t size, uint64_t dead, uintptr_t stack_pointer, uintptr_t code) {
+    (void)block, (void)size, (void)dead, (void)stack_pointer, (void)code;
 }
-uint64_t look_blocks[(1 << LOOK_BLOCK_BITS) / 64], *places_site_keys;
+void look_at_structure(void) {}
+void look_at_access(bool writes, uint64_t location) { (void)writes, (void)location; }
+void look_forget_pending(void) {}
+uint64_t look_blocks[(1 << LOOK_BLOCK_BITS) / 64], look_place_now, look_next_place, *places_site_keys;
 uint16_t *places_site_numbers;
+struct places_newest places_newest;
+void places_put_other(uint16_t site) { (void)site; }
 uint16_t places_find_site(uint64_t word) { return (uint16_t)word; }
 void look_note_pending(bool writes, uint64_t location, uintptr_t address, uintptr_t code) {
     (void)writes, (void)location, (void)address, (void)code;
 }
-void note_write(uintptr_t at, size_t size, __spbags_function self, uintptr_t stack_pointer, uintptr_t code) {
+void accesses_note_write(uintptr_t at, size_t size, __spbags_function self, uintptr_t stack_pointer, uintptr_t code) {
     (void)at, (void)size, (void)self, (void)stack_pointer, (void)code;
 }
 
@@ -68,10 +72,10 @@ static unsigned drawn(unsigned below) {
 
 /* ---- The blocks of a strand ---- */
 
-enum { UNITS = 200, STACK_BYTES = 1 << 20 };
+enum { GRANULES = 200, STACK_BYTES = 1 << 20 };
 static char *stack_memory;
-static _Alignas(256) uint32_t memory[10 * BLOCK_UNITS];
-static uintptr_t memory_unit(unsigned number) { return (uintptr_t)&memory[number]; }
+static _Alignas(256) uint32_t memory[10 * BLOCK_GRANULES];
+static uintptr_t memory_granule(unsigned number) { return (uintptr_t)&memory[number]; }
 
 /* Above what the hooks reserve. */
 static void make_stack(void) {
@@ -81,28 +85,36 @@ static void make_stack(void) {
     stacks_running_size = stacks_size = STACK_BYTES;
     stacks[0].end = stacks_first + STACK_BYTES;
     marks_begin(stacks_first, stacks[0].end);
-    locations_begin();
 }
 
-/* How many parts have gone out, and of the last one the blocks in their order with what was read there, and written. */
+/* What has gone out: the blocks in their order with what was read there, and written. */
 static struct {
-    size_t parts, count;
-    uint64_t locations[MOST_BLOCKS], masks[MOST_BLOCKS][2];
+    size_t count;
+    uint64_t locations[2 * STRAND_MOST_BLOCKS], masks[2 * STRAND_MOST_BLOCKS][2];
 } out;
+static uint64_t gone_out[STEPS_AT_HAND];
 
-void records_put_strand(void) {
-    out.count = 0;
-    for (size_t at = 0; at < strands_part.used; at++) {
-        out.locations[out.count] = strands_part.list[at].location;
-        take_units(&strands_part.list[at], out.masks[out.count]);
-        out.count += (out.masks[out.count][false] | out.masks[out.count][true]) != 0;
-    }
-    strands_part.used = 0;
-    strands_part.before++;
-    out.parts++;
+static uint64_t *hand_over(const uint64_t *end) {
+    DEMAND(end == gone_out);
+    return gone_out;
 }
 
-static uint64_t location_of_block(unsigned block) { return 2 * (memory_unit(block * BLOCK_UNITS) >> units_shift); }
+static void begin_reading(void) { steps_begin(gone_out, hand_over); }
+
+/* All from the last call of this or of begin_reading. */
+static void read_out(void) {
+    out.count = 0;
+    for (const uint64_t *at = gone_out; at < steps_next; at += 3, out.count++) {
+        DEMAND((*at & 7) == steps_block_follows && out.count < 2 * STRAND_MOST_BLOCKS);
+        out.locations[out.count] = *at >> 3;
+        memcpy(out.masks[out.count], at + 1, sizeof *out.masks);
+    }
+    begin_reading();
+}
+
+static uint64_t location_of_block(unsigned block) {
+    return 2 * (memory_granule(block * BLOCK_GRANULES) >> granules_shift);
+}
 
 /* They go out in the order of their first touch, with what was read before it was written and what was written, whether
    that is noted quickly or not; and those beyond the limit are in another part. */
@@ -110,110 +122,115 @@ static void strand_blocks(void) {
     make_stack();
     for (int round = 0; round < 2000; round++) {
         uint64_t wanted[10][2] = {{0}}, touched[10] = {0};
-        unsigned order[MOST_BLOCKS + 1], used = 0;
-        size_t parts = out.parts;
-        locations_noted_quickly = drawn(2) != 0;
+        unsigned order[STRAND_MOST_BLOCKS + 1], used = 0;
+        uint64_t parts = course.parts;
+        strands_noted_quickly = drawn(2) != 0;
+        begin_reading();
         for (int access = 0; access < 40; access++) {
-            unsigned block = drawn(8), first = drawn(BLOCK_UNITS), count = 1 + drawn(BLOCK_UNITS - first),
+            unsigned block = drawn(8), first = drawn(BLOCK_GRANULES), count = 1 + drawn(BLOCK_GRANULES - first),
                      writes = drawn(2);
-            if (touched[block] == 0 && used == MOST_BLOCKS)
+            if (touched[block] == 0 && used == STRAND_MOST_BLOCKS)
                 continue;
             order[used] = block;
             used += touched[block] == 0;
-            locations_touch(writes, memory_unit(block * BLOCK_UNITS + first), 4 * (size_t)count, 0);
-            wanted[block][writes] |= units_from(first, count) & ~(writes ? 0 : wanted[block][true]);
-            touched[block] |= units_from(first, count);
+            locations_touch(writes, memory_granule(block * BLOCK_GRANULES + first), 4 * (size_t)count, 0);
+            wanted[block][writes] |= blocks_granules_from(first, count) & ~(writes ? 0 : wanted[block][true]);
+            touched[block] |= blocks_granules_from(first, count);
         }
-        records_put_strand();
-        DEMAND(out.parts == parts + 1 && out.count == used);
+        strands_put();
+        read_out();
+        DEMAND(course.parts == parts + 1 && out.count == used);
         for (unsigned at = 0; at < used; at++) {
             DEMAND(out.locations[at] == location_of_block(order[at]));
             DEMAND(memcmp(out.masks[at], wanted[order[at]], sizeof out.masks[at]) == 0);
         }
     }
-    for (unsigned block = 0; block < MOST_BLOCKS; block++)
-        locations_touch(true, memory_unit(block * BLOCK_UNITS), 4, 0);
-    size_t parts = out.parts;
-    locations_touch(true, memory_unit(0), 4, 0);
-    DEMAND(out.parts == parts);
-    locations_touch(true, memory_unit(MOST_BLOCKS * BLOCK_UNITS), 4, 0);
-    DEMAND(out.parts == parts + 1 && out.count == MOST_BLOCKS && strands_part.used == 1);
+    for (unsigned block = 0; block < STRAND_MOST_BLOCKS; block++)
+        locations_touch(true, memory_granule(block * BLOCK_GRANULES), 4, 0);
+    uint64_t parts = course.parts;
+    locations_touch(true, memory_granule(0), 4, 0);
+    DEMAND(course.parts == parts);
+    locations_touch(true, memory_granule(STRAND_MOST_BLOCKS * BLOCK_GRANULES), 4, 0);
+    read_out();
+    DEMAND(course.parts == parts + 1 && out.count == STRAND_MOST_BLOCKS && strands_part.used == 1);
 }
 
 static void strand_locations(void) {
-    for (unsigned unit = 0; unit < BLOCK_UNITS; unit++) {
-        DEMAND(block_at(memory_unit(unit)).location == location_of_block(0));
-        DEMAND(location_in_life(memory_unit(unit)) == location_of_block(0) + 2 * unit);
-        DEMAND(is_gathered(2 * unit) && !is_gathered(2 * unit + 1));
+    for (unsigned granule = 0; granule < BLOCK_GRANULES; granule++) {
+        DEMAND(blocks_at(memory_granule(granule)).location == location_of_block(0));
+        DEMAND(blocks_location(memory_granule(granule)) == location_of_block(0) + 2 * granule);
+        DEMAND(strands_gather(2 * granule) && !strands_gather(2 * granule + 1));
     }
 }
 
 /* They are no heap's, and don't stay dead. */
 static void die_alone(unsigned first, unsigned end) {
-    strands_set_dead(memory_unit(first), memory_unit(end));
-    for (unsigned unit = first; unit < end; unit++) {
-        struct block *block = block_at(memory_unit(unit)).block;
-        DEMAND((block->dead & units_from(unit % BLOCK_UNITS, 1)) != 0);
-        block->dead = unit % BLOCK_UNITS == BLOCK_UNITS - 1 || unit + 1 == end ? 0 : block->dead;
+    strands_set_dead(memory_granule(first), memory_granule(end));
+    for (unsigned granule = first; granule < end; granule++) {
+        struct block *block = blocks_at(memory_granule(granule)).block;
+        DEMAND((block->dead & blocks_granules_from(granule % BLOCK_GRANULES, 1)) != 0);
+        block->dead = granule % BLOCK_GRANULES == BLOCK_GRANULES - 1 || granule + 1 == end ? 0 : block->dead;
     }
 }
 
 /* What is left out has no access any more, and a block of which nothing is left makes room. */
 static void strand_left_out(void) {
-    enum { MOST = 3 * BLOCK_UNITS };
+    enum { MOST = 3 * BLOCK_GRANULES };
     uint64_t left[3] = {0};
     make_stack();
     for (int round = 0; round < 20000; round++) {
-        unsigned unit = drawn(MOST), first = drawn(MOST), end = first + drawn(MOST - first) + 1;
-        locations_noted_quickly = drawn(2) != 0;
-        locations_touch(true, memory_unit(unit), 4, 0);
-        left[unit / BLOCK_UNITS] |= units_from(unit % BLOCK_UNITS, 1);
+        unsigned granule = drawn(MOST), first = drawn(MOST), end = first + drawn(MOST - first) + 1;
+        strands_noted_quickly = drawn(2) != 0;
+        locations_touch(true, memory_granule(granule), 4, 0);
+        left[granule / BLOCK_GRANULES] |= blocks_granules_from(granule % BLOCK_GRANULES, 1);
         if (drawn(20) == 0) {
             die_alone(first, end);
             for (unsigned gone = first; gone < end; gone++)
-                left[gone / BLOCK_UNITS] &= ~units_from(gone % BLOCK_UNITS, 1);
+                left[gone / BLOCK_GRANULES] &= ~blocks_granules_from(gone % BLOCK_GRANULES, 1);
         }
         for (unsigned block = 0; block < 3; block++)
-            DEMAND(units_with(block_at(memory_unit(block * BLOCK_UNITS)).done, WROTE_IT) == left[block]);
+            DEMAND(blocks_granules_with(blocks_at(memory_granule(block * BLOCK_GRANULES)).done, BLOCK_WROTE) ==
+                   left[block]);
     }
-    size_t parts = out.parts;
+    uint64_t parts = course.parts;
     for (unsigned block = 0; block < 100; block++) {
-        locations_touch(true, memory_unit(block % 10 * BLOCK_UNITS), 4, 0);
-        die_alone(0, 10 * BLOCK_UNITS);
+        locations_touch(true, memory_granule(block % 10 * BLOCK_GRANULES), 4, 0);
+        die_alone(0, 10 * BLOCK_GRANULES);
     }
-    DEMAND(out.parts == parts);
+    DEMAND(course.parts == parts);
 }
 
 /* ---- Marks, and the numbers of the stack ---- */
 
-static uintptr_t stack_unit(unsigned number) { return stacks_first + STACK_BYTES - 4 * (uintptr_t)(number + 1); }
+static uintptr_t stack_granule(unsigned number) { return stacks_first + STACK_BYTES - 4 * (uintptr_t)(number + 1); }
 
 static unsigned records;
 static uint64_t recorded;
-void records_access(bool writes, const struct touched *in, uint64_t location, uintptr_t address, uintptr_t code) {
+void records_access(bool writes, const struct block_touched *in, uint64_t location, uintptr_t address, uintptr_t code) {
     (void)address, (void)code;
     records++;
     recorded = location;
     if (in)
-        note_in_block(writes, in, units_from((unsigned)(location - in->location) / 2, 1), code);
+        records_note_in_block(writes, in, blocks_granules_from((unsigned)(location - in->location) / 2, 1), code);
 }
 
 static void next_strand(void) {
-    records_put_strand();
-    begin_strand();
+    begin_reading();
+    strands_put();
+    marks_begin_strand();
 }
 
 /* In a strand an access is a repeat behind a write, and a read behind any. */
 static void marks_repeats(void) {
-    unsigned done[2 * UNITS] = {0};
+    unsigned done[2 * GRANULES] = {0};
     make_stack();
     for (int access = 0; access < 100000; access++) {
-        unsigned unit = drawn(2 * UNITS), writes = drawn(2);
-        bool repeats = (done[unit] & WROTE_IT) != 0 || (!writes && done[unit] != 0);
+        unsigned granule = drawn(2 * GRANULES), writes = drawn(2);
+        bool repeats = (done[granule] & BLOCK_WROTE) != 0 || (!writes && done[granule] != 0);
         records = 0;
-        locations_touch(writes, unit < UNITS ? memory_unit(unit) : stack_unit(unit - UNITS), 4, 0);
+        locations_touch(writes, granule < GRANULES ? memory_granule(granule) : stack_granule(granule - GRANULES), 4, 0);
         DEMAND(records == !repeats);
-        done[unit] |= writes ? WROTE_IT : READ_IT;
+        done[granule] |= writes ? BLOCK_WROTE : BLOCK_READ;
         if (drawn(500) == 0) {
             next_strand();
             memset(done, 0, sizeof done);
@@ -222,25 +239,25 @@ static void marks_repeats(void) {
 }
 
 /* What is a thread's own has no records, also when the numbers of strands begin again. */
-static void marks_own(void) {
+static void marks_own_memory(void) {
     make_stack();
-    own_copies = (struct own_memory){memory_unit(3), memory_unit(5)};
+    own_copies = (struct own_memory){memory_granule(3), memory_granule(5)};
     own_add(own_copies);
-    for (int strand = 0; strand < 3 * (int)MOST_STRANDS; strand++) {
+    for (int strand = 0; strand < 3 * (int)MARK_MOST_STRANDS; strand++) {
         records = 0;
-        locations_touch(true, memory_unit(2), 16, 0);
+        locations_touch(true, memory_granule(2), 16, 0);
         DEMAND(records == 2);
         next_strand();
     }
 }
 
-/* A record for each unit that an access touches a part of. */
-static void marks_units(void) {
+/* A record for each granule that an access touches a part of. */
+static void marks_granules(void) {
     make_stack();
     for (unsigned first = 0; first < 8; first++)
         for (unsigned size = 0; size < 20; size++) {
             records = 0;
-            locations_touch(true, memory_unit(10) + first, size, 0);
+            locations_touch(true, memory_granule(10) + first, size, 0);
             DEMAND(records == (size == 0 ? 0 : (first + size - 1) / 4 - first / 4 + 1));
             next_strand();
         }
@@ -248,53 +265,54 @@ static void marks_units(void) {
 
 /* The numbers that have ended, but for those of the newest group. */
 static bool is_ended[100000];
-void records_end_numbers(uint64_t location) {
+void recent_end_numbers(uint64_t location) {
     DEMAND(location % 2 == 1);
-    uint64_t group = location / 2 >> GROUP_NUMBERS, members = location / 2 % (1 << GROUP_NUMBERS);
-    for (unsigned member = 0; member < GROUP_NUMBERS; member++)
+    uint64_t group = location / 2 >> STEPS_GROUP_NUMBERS, members = location / 2 % (1 << STEPS_GROUP_NUMBERS);
+    for (unsigned member = 0; member < STEPS_GROUP_NUMBERS; member++)
         if ((members >> member & 1) != 0) {
-            DEMAND(!is_ended[group * GROUP_NUMBERS + member]);
-            is_ended[group * GROUP_NUMBERS + member] = true;
+            DEMAND(!is_ended[group * STEPS_GROUP_NUMBERS + member]);
+            is_ended[group * STEPS_GROUP_NUMBERS + member] = true;
         }
 }
 
-void records_end_window(void) { window_number = window_last_number; }
-void records_leave_out_dying(uintptr_t before) {
+void recent_end_window(void) { steps_window_number = steps_last_number; }
+void recent_leave_out_dying(uintptr_t before) {
     (void)before;
-    end_dying();
+    steps_end_dying();
 }
 
 static bool has_ended(uint64_t number) {
-    const struct ended *ended = place_of_ended(number);
-    bool is_at_hand = number / GROUP_NUMBERS == ended->group && (ended->members >> number % GROUP_NUMBERS & 1) != 0;
+    const struct location_ended *ended = locations_place_of_ended(number);
+    bool is_at_hand =
+        number / STEPS_GROUP_NUMBERS == ended->group && (ended->members >> number % STEPS_GROUP_NUMBERS & 1) != 0;
     return is_ended[number] || is_at_hand;
 }
 
-/* A unit of the stack has a fresh odd location at each first touch, keeps it until its memory ends, and then it has
-   ended. Others have twice their address in units. */
+/* A granule of the stack has a fresh odd location at each first touch, keeps it until its memory ends, and then it has
+   ended. Others have twice their address in granules. */
 static void stack_numbers(void) {
     static bool ends[100000];
-    uint64_t number[UNITS] = {0}, newest = 0;
-    unsigned unit = 0;
+    uint64_t number[GRANULES] = {0}, newest = 0;
+    unsigned granule = 0;
     make_stack();
     for (int round = 0; round < 2000; round++) {
-        unit = drawn(2) ? drawn(UNITS) : (unit + 1) % UNITS;
-        locations_touch(true, stack_unit(unit), 4, 0);
-        newest += number[unit] == 0;
-        number[unit] = number[unit] == 0 ? newest : number[unit];
-        DEMAND(recorded == 2 * number[unit] + 1);
-        begin_strand();
-        unsigned kept = drawn(UNITS);
+        granule = drawn(2) ? drawn(GRANULES) : (granule + 1) % GRANULES;
+        locations_touch(true, stack_granule(granule), 4, 0);
+        newest += number[granule] == 0;
+        number[granule] = number[granule] == 0 ? newest : number[granule];
+        DEMAND(recorded == 2 * number[granule] + 1);
+        marks_begin_strand();
+        unsigned kept = drawn(GRANULES);
         if (drawn(5) != 0)
             continue;
-        clear_marks(stack_mark(stacks_lowest), stack_mark(stack_unit(kept)));
-        for (unsigned gone = kept + 1; gone < UNITS; gone++) {
+        locations_clear_marks(marks_at(stacks_lowest), marks_at(stack_granule(kept)));
+        for (unsigned gone = kept + 1; gone < GRANULES; gone++) {
             ends[number[gone]] = number[gone] != 0;
             number[gone] = 0;
         }
     }
-    locations_touch(true, memory_unit(7), 4, 0);
-    DEMAND(recorded == 2 * (memory_unit(7) / 4));
+    locations_touch(true, memory_granule(7), 4, 0);
+    DEMAND(recorded == 2 * (memory_granule(7) / 4));
     for (uint64_t at = 1; at <= newest; at++)
         DEMAND(ends[at] == has_ended(at));
 }
@@ -302,17 +320,17 @@ static void stack_numbers(void) {
 /* A number that ends in the window in which it began dies there, and isn't told. */
 static void stack_window(void) {
     make_stack();
-    window_leaves_out = true;
-    locations_touch(true, stack_unit(0), 4, 0);
-    records_end_window();
-    locations_touch(true, stack_unit(1), 4, 0);
-    locations_touch(true, stack_unit(2), 4, 0);
-    locations_clear(stack_unit(1), 4);
-    DEMAND(!any_dies());
-    clear_marks(stack_mark(stack_unit(2)), stack_mark(stack_unit(0)) + 1);
-    DEMAND(any_dies() && !is_dying(1) && !is_dying(2) && is_dying(3) && !is_dying(4));
-    end_dying();
-    DEMAND(!any_dies() && !is_dying(3) && has_ended(1) && !has_ended(2) && !has_ended(3));
+    steps_may_leave_out = true;
+    locations_touch(true, stack_granule(0), 4, 0);
+    recent_end_window();
+    locations_touch(true, stack_granule(1), 4, 0);
+    locations_touch(true, stack_granule(2), 4, 0);
+    locations_clear(stack_granule(1), 4);
+    DEMAND(!steps_any_dies());
+    locations_clear_marks(marks_at(stack_granule(2)), marks_at(stack_granule(0)) + 1);
+    DEMAND(steps_any_dies() && !steps_is_dying(1) && !steps_is_dying(2) && steps_is_dying(3) && !steps_is_dying(4));
+    steps_end_dying();
+    DEMAND(!steps_any_dies() && !steps_is_dying(3) && has_ended(1) && !has_ended(2) && !has_ended(3));
 }
 
 /* ---- The heap ---- */
@@ -343,7 +361,7 @@ static void heap_blocks(void) {
     }
     for (unsigned at = 0; at < LIVE; at++)
         check_block(live[at].at, live[at].size, live[at].filled);
-    DEMAND(spans_lives.newest > 0);
+    DEMAND(granules_lifetimes.newest > 0);
 }
 
 static void heap_zero(void) {
@@ -355,7 +373,7 @@ static void heap_zero(void) {
     }
     for (size_t alignment = 1; alignment <= 1 << 20; alignment *= 2)
         DEMAND((uintptr_t)aligned_alloc(alignment, 1) % alignment == 0);
-    DEMAND(spans_lives.newest > 0 && spans_taken < 100);
+    DEMAND(granules_lifetimes.newest > 0 && spans_taken < 100);
 }
 
 /* One larger than what the system gives at once, and what no system has. */
@@ -444,7 +462,7 @@ static void formats_scan(void) {
     DEMAND(scans("o3! w4!", 2, "%2$s %1$s", word, other));
 }
 
-static void formats_narrow(void) {
+static void formats_partial(void) {
     char room[6];
     DEMAND(strcmp(formats_narrowed(L"%l\u00e9s", room, sizeof room), "%l?s") == 0);
     DEMAND(strcmp(formats_narrowed(L"1234567", room, sizeof room), "12345") == 0);
@@ -488,15 +506,15 @@ int main(int count, char **words) {
         const char *name;
         void (*run)(void);
     } parts[] = {{"strand_blocks", strand_blocks},     {"strand_locations", strand_locations},
-                 {"marks_repeats", marks_repeats},     {"marks_own", marks_own},
-                 {"marks_units", marks_units},         {"stack_numbers", stack_numbers},
+                 {"marks_repeats", marks_repeats},     {"marks_own", marks_own_memory},
+                 {"marks_units", marks_granules},      {"stack_numbers", stack_numbers},
                  {"heap_blocks", heap_blocks},         {"heap_zero", heap_zero},
                  {"strand_left_out", strand_left_out}, {"stack_window", stack_window},
                  {"heap_sizes", heap_sizes},           {"heap_moves", heap_moves},
                  {"formats_print", formats_print},     {"formats_scan", formats_scan},
-                 {"formats_narrow", formats_narrow},   {"packing", packing}};
-    units_shift = USUAL_SHIFT;
-    units_mask = 3;
+                 {"formats_narrow", formats_partial},  {"packing", packing}};
+    granules_shift = GRANULE_USUAL_SHIFT;
+    granules_mask = 3;
     for (size_t at = 0; at < sizeof parts / sizeof *parts; at++)
         if (count == 1)
             puts(parts[at].name);

@@ -88,12 +88,12 @@ class TraceTest(TracerTest):
         """With so few numbers for strands they run out again and again."""
         for source, jumps, unit in (("fib.c", False, "4"), ("traps.c", True, "1")):
             with self.subTest(source):
-                self.succeeds(SPBAGS_CC, "-DRACY", "-o", "strands", source, CC=f"{CC} -DMOST_STRANDS=20")
+                self.succeeds(SPBAGS_CC, "-DRACY", "-o", "strands", source, CC=f"{CC} -DMARK_MOST_STRANDS=20")
                 self.is_same_without_repeats("./strands", jumps=jumps, SPBAGS_UNIT=unit)
 
     def test_parts(self):
         """With so few blocks strands go out in parts."""
-        few = {"CC": f"{CC} -DMOST_BLOCKS=2"}
+        few = {"CC": f"{CC} -DSTRAND_MOST_BLOCKS=2"}
         self.succeeds(SPBAGS_CC, "-DRACY", "-o", "strands", "matmul.c", **few)
         with self.subTest("the same without repeats"):
             self.is_same_without_repeats("./strands", most_blocks=2)

@@ -310,14 +310,14 @@ class DetectorTest(LinkTest):
 
 class HooksTest(LinkTest):
     """The hooks are compiled once. The tracer here has a few, which do for a library."""
-    HOOKS = {"accesses.c", "look.c", "openmp_loops.c"}
+    HOOKS = {"program/accesses.c", "records/look.c", "openmp/loops.c"}
     SETTINGS = {"SPBAGS_CC": "gcc", "SPBAGS_CXX": "g++"}
 
     def setUp(self):
         super().setUp()
         self.compiler = self.tracer_beside("exit 2")
-        for name in glob.glob("there/tracer/hooks/*.c"):
-            if os.path.basename(name) not in self.HOOKS:
+        for name in glob.glob("there/tracer/hooks/**/*.c", recursive=True):
+            if os.path.relpath(name, "there/tracer/hooks") not in self.HOOKS:
                 os.unlink(name)
         self.succeeds(self.compiler, "-fPIC", "-c", "fib.c")
         self.link = [self.compiler, "--trace", "-shared", "fib.o", "-o", "libfib.so"]

@@ -8,19 +8,21 @@ import cases
 from cases import CC, TESTS, TRACER, TracerTest
 
 # Limits of a strand, of the number of strands, which come again and again then, and of memory that stays free.
-LIMITS = ("-DMOST_STRANDS=20", "-DMOST_BLOCKS=4", "-DFREE_SPANS=1")
+LIMITS = ("-DMARK_MOST_STRANDS=20", "-DSTRAND_MOST_BLOCKS=4", "-DFREE_SPANS=1")
 UNDEFINED = ("-fsanitize=undefined", "-fsanitize-undefined-trap-on-error")
-BESIDE = [os.path.join(TRACER, "hooks", f"{name}.c")
-          for name in ("blocks", "course", "formats", "guards", "marks", "memory", "own", "packing", "settings", "spans", "stacks", "steps",
-                         "strands", "tell", "units", "window")]
+HOOKS = os.path.join(TRACER, "hooks")
+BESIDE = [f"{HOOKS}/{name}.c" for name in (
+    "base/changes", "base/memory", "base/output", "base/settings", "base/tell", "library/formats", "records/course",
+    "records/guards", "records/lines", "records/packing", "records/steps", "records/strands", "shadow/blocks",
+    "shadow/granules", "shadow/marks", "shadow/own", "shadow/stacks")]
 
 
 class PartsTest(TracerTest):
     def test_parts(self):
         # The library's functions are the real ones here.
         self.write("library_names.h", "")
-        self.succeeds(CC, "-w", "-O1", "-fno-builtin", *UNDEFINED, *LIMITS, "-DSPBAGS_INSIDE", "-I.", "-o", "parts",
-                      os.path.join(TESTS, "parts.c"), *BESIDE)
+        self.succeeds(CC, "-w", "-O1", "-fno-builtin", *UNDEFINED, *LIMITS, "-DSPBAGS_INSIDE", "-I.", f"-I{HOOKS}",
+                      "-o", "parts", os.path.join(TESTS, "parts.c"), *BESIDE)
         names = self.succeeds("./parts").out.split()
         self.assertTrue(names)
         for name in names:

@@ -1,0 +1,3 @@
+#include "base/doing.h"
+
+struct doing doing;

@@ -1,0 +1,38 @@
+/* What the other folders ask of OpenMP. Its own is compiled where a program needs it, and stands in for the runtimes of
+   gcc and clang. */
+#ifndef SPBAGS_BASE_OPENMP_H
+#define SPBAGS_BASE_OPENMP_H
+
+#include "base/common.h"
+
+#ifdef SPBAGS_OPENMP
+/* Whether accesses are looked at beside, as those after an ordered region. They come here all. */
+extern bool openmp_watches;
+void openmp_watch_access(bool writes, uintptr_t address, size_t size, uintptr_t code);
+/* An access of memory that may be another thread's: of a stack that doesn't run, or near what a thread has of its
+   own. */
+__attribute__((cold)) void openmp_note_other(uintptr_t address, uintptr_t code);
+/* Whether a task or a thread may run beside what the program does now; for code that may have something in any
+   register. */
+__attribute__((no_caller_saved_registers, target("general-regs-only"))) bool openmp_has_beside(void);
+/* The stacks of a team's members lie below the program's own, where the system leaves room for that to grow. */
+size_t openmp_room_for_members(size_t *own_size);
+/* A file that says which tasks are waited for as parts of their parents. */
+void openmp_open_waited(int file);
+void openmp_tell_notes(void);
+#else
+enum { openmp_watches = false };
+static inline void openmp_watch_access(bool writes, uintptr_t address, size_t size, uintptr_t code) {
+    (void)writes, (void)address, (void)size, (void)code;
+}
+static inline void openmp_note_other(uintptr_t address, uintptr_t code) { (void)address, (void)code; }
+static inline bool openmp_has_beside(void) { return false; }
+static inline size_t openmp_room_for_members(size_t *own_size) {
+    (void)own_size;
+    return 0;
+}
+static inline void openmp_open_waited(int file) { close(file); }
+static inline void openmp_tell_notes(void) {}
+#endif
+
+#endif

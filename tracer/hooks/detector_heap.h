@@ -1,9 +1,0 @@
-/* The heap of the detector inside. */
-#ifndef SPBAGS_DETECTOR_HEAP_H
-#define SPBAGS_DETECTOR_HEAP_H
-
-#include "common.h"
-
-void detector_heap_begin(void);
-
-#endif

@@ -1,3 +1,0 @@
-#include "doing.h"
-
-struct doing doing;

@@ -1,0 +1,81 @@
+#include "library/library.h"
+
+#include "base/doing.h"
+#include "records/guards.h"
+#include "library/streams.h"
+#include "base/tell.h"
+
+int library_state_of_hsearch;
+static int library_state_of_rand, library_state_of_drand48, library_state_of_mblen, library_state_of_mbtowc,
+    library_state_of_wctomb, library_state_of_mbrlen, library_state_of_mbrtowc, library_state_of_wcrtomb,
+    library_state_of_mbrtoc16, library_state_of_c16rtomb, library_state_of_mbsrtowcs, library_state_of_wcsrtombs,
+    library_state_of_environment, library_state_of_locale, library_state_of_textdomain, library_state_of_getpwent,
+    library_state_of_getgrent, library_state_of_setlogmask;
+
+/* ---- Accesses of several pieces ---- */
+
+/* A row of so many, each `stride` bytes behind the one before. A piece that lies nowhere isn't touched. */
+static void note_every(bool writes, uintptr_t at, size_t size, size_t count, size_t stride, __spbags_function self,
+                       uintptr_t stack_pointer, uintptr_t code) {
+    for (; count > 0; count--, at += stride)
+        accesses_note(writes, at, size, self, stack_pointer, code);
+}
+
+/* So many bytes, which these pieces hold one after the other. */
+static void note_pieces(bool writes, const struct iovec *piece, size_t count, ssize_t bytes, __spbags_function self,
+                        uintptr_t stack_pointer, uintptr_t code) {
+    for (; count > 0 && bytes > 0; piece++, count--) {
+        size_t size = least(piece->iov_len, (size_t)bytes);
+        accesses_note(writes, (uintptr_t)piece->iov_base, size, self, stack_pointer, code);
+        bytes -= (ssize_t)size;
+    }
+}
+
+/* A list that a function is handed is the caller's: arguments are taken out of it. */
+static void note_list(va_list list, __spbags_function self, uintptr_t stack_pointer, uintptr_t code) {
+    if (!doing.tracing)
+        return;
+    accesses_note(false, (uintptr_t)list, sizeof(va_list), self, stack_pointer, code);
+    accesses_note(true, (uintptr_t)list, sizeof(va_list), self, stack_pointer, code);
+}
+
+enum { KIND_READ = false, KIND_WRITE = true };
+#define NOTE_EVERY(KIND, AT, SIZE, COUNT, STRIDE, SELF) \
+    note_every(KIND_##KIND, (uintptr_t)(AT), SIZE, COUNT, STRIDE, (__spbags_function)SELF, STACK_POINTER, CODE)
+#define NOTE_PIECES(KIND, AT, COUNT, BYTES, SELF) \
+    note_pieces(KIND_##KIND, AT, (size_t)(COUNT), BYTES, (__spbags_function)SELF, STACK_POINTER, CODE)
+
+void library_note_argument(bool writes, uintptr_t at, size_t size, const void *with) {
+    const struct caller *by = with;
+    if (writes)
+        accesses_note_by(true, at, size, *by);
+    else
+        accesses_note_read(at, size, by->self, by->stack_pointer, by->code);
+}
+
+/* ---- The functions ---- */
+
+#ifndef __clang__
+#pragma GCC push_options
+#pragma GCC optimize("O1")
+#endif
+#include "library_wrappers.h"
+#ifndef __clang__
+#pragma GCC pop_options
+#endif
+
+void library_refuse_thread(void) {
+    if (doing.tracing)
+        tell_fault("the program starts a thread, and only a serial run can be traced");
+}
+
+int __wrap_pthread_create(pthread_t *thread, const pthread_attr_t *attributes, void *(*start)(void *), void *with) {
+    library_refuse_thread();
+    return __real_pthread_create(thread, attributes, start, with);
+}
+
+int __real_thrd_create(thrd_t *, thrd_start_t, void *);
+int __wrap_thrd_create(thrd_t *thread, thrd_start_t start, void *with) {
+    library_refuse_thread();
+    return __real_thrd_create(thread, start, with);
+}

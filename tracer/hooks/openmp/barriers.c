@@ -1,0 +1,77 @@
+#include "openmp/barriers.h"
+
+#include "openmp/children.h"
+#include "openmp/loops.h"
+#include "openmp/members.h"
+#include "openmp/notes.h"
+
+void barriers_join_team(uintptr_t code) {
+    if (scopes_holder()->kind == SCOPE_MEMBER) {
+        members_wait(code);
+        return;
+    }
+    struct scope *thread = scopes_thread();
+    children_join_from(thread, code);
+    thread->loop->is_static = false;
+    thread->master = 0;
+    scopes_end_period(thread);
+}
+
+/* Where a loop's variable is private first and shared at its end, gcc puts a barrier into the loop's first share. */
+void barriers_wait(uintptr_t code) {
+    const struct scope *newest = scopes.newest;
+    bool is_share = newest->kind == SCOPE_SHARE, in_share = is_share && !scopes_thread()->loop->ordered;
+    if (in_share)
+        children_close(code);
+    if (in_share || !is_share)
+        barriers_join_team(code);
+    if (in_share)
+        children_open(SCOPE_SHARE, code);
+}
+
+bool barriers_leaves_to_others(const struct scope *thread) {
+    bool asks = thread->team && thread->team->asks;
+    if (!team_is_last(thread))
+        return thread->master != 0 || asks;
+    if (thread->master != 0)
+        notes_keep(&notes.master_does_more, thread->master);
+    if (asks)
+        notes_keep(&notes.last_does, thread->team->code);
+    return false;
+}
+
+bool barriers_does_single(void) {
+    struct scope *thread = scopes_thread();
+    if (thread->kind != SCOPE_MEMBER)
+        return !barriers_leaves_to_others(thread);
+    bool is_left = thread->singles_met++ == thread->team->singles;
+    bool does = is_left && !barriers_leaves_to_others(thread);
+    thread->team->singles += does;
+    return does;
+}
+
+#pragma GCC visibility push(hidden)
+
+void GOMP_barrier(void) { barriers_wait(CODE); }
+bool GOMP_barrier_cancel(void) {
+    barriers_wait(CODE);
+    return false;
+}
+
+bool GOMP_single_start(void) { return barriers_does_single(); }
+
+void *GOMP_single_copy_start(void) {
+    if (barriers_does_single())
+        return NULL;
+    members_wait(CODE);
+    return scopes_team()->team->copied;
+}
+
+void GOMP_single_copy_end(void *data) {
+    if (scopes_thread()->kind != SCOPE_MEMBER)
+        return;
+    scopes_team()->team->copied = data;
+    members_wait(CODE);
+}
+
+#pragma GCC visibility pop

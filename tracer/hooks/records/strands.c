@@ -1,0 +1,330 @@
+#include "records/strands.h"
+
+#include "records/lines.h"
+#include "records/look.h"
+#include "records/places.h"
+#include "records/recent.h"
+#include "records/steps.h"
+#include "shadow/frames.h"
+#include "shadow/own.h"
+
+struct strand_part strands_part;
+struct strand_quick_sites strands_quick_sites[STRAND_QUICK_SITES];
+bool strands_noted_quickly, strands_stack_noted_quickly;
+
+static bool is_left(struct block_touched touched) {
+    if (!touched.block)
+        return false;
+    touched.block->place = 0;
+    return (blocks_granules_with(touched.done, BLOCK_READ) | blocks_granules_with(touched.done, BLOCK_WROTE)) != 0 ||
+           touched.block->is_byte_granular;
+}
+
+/* The blocks of which nothing is left make room for others. */
+static void drop_empty(void) {
+    size_t used = strands_part.used;
+    strands_part.used = 0;
+    strands_part.has_gaps = false;
+    for (size_t at = 0; at < used; at++) {
+        if (!is_left(strands_part.list[at])) {
+            memset(strands_part.list[at].done, 0, strands_part.list[at].block ? BLOCK_GRANULES : 0);
+            strands_part.sites[at][false].only = strands_part.sites[at][true].only = STRAND_NO_SITES;
+            continue;
+        }
+        if (strands_part.used < at && doing.keeping_places) {
+            memcpy(strands_part.sites[strands_part.used], strands_part.sites[at], sizeof *strands_part.sites);
+            strands_part.sites[at][false].only = strands_part.sites[at][true].only = STRAND_NO_SITES;
+        }
+        strands_place(&strands_part.list[at]);
+    }
+}
+
+void strands_make_room(void) {
+    frames_leave_short_way();
+    strands_leave_quick_sites();
+    if (strands_part.has_gaps)
+        drop_empty();
+    frames_find_short_way();
+    if (strands_part.used > STRAND_MOST_BLOCKS / 4 * 3)
+        strands_put();
+}
+
+void strands_note_others(bool writes, const struct block_touched *in, uint64_t granules, uint64_t word) {
+    struct strand_sites *sites = &strands_part.sites[in->block->place - 1][writes];
+    const uint16_t number = places_site_number(word);
+    if (sites->only == STRAND_NO_SITES) {
+        sites->number = number;
+        sites->only = word;
+        return;
+    }
+    if (sites->only != STRAND_SEVERAL_SITES) {
+        uint64_t before = blocks_granules_with(in->done, writes ? BLOCK_WROTE : BLOCK_READ);
+        for (unsigned granule = 0; granule < BLOCK_GRANULES; granule++)
+            sites->of[granule] = (before >> granule & 1) != 0 ? sites->number : PLACES_NO_SITE;
+        sites->only = STRAND_SEVERAL_SITES;
+    }
+    for (; granules != 0; granules &= granules - 1)
+        sites->of[__builtin_ctzll(granules)] = number;
+}
+
+void strands_follow_views(bool are_there) {
+    strands_noted_quickly = doing.plain && !are_there;
+    strands_stack_noted_quickly = strands_noted_quickly && !doing.looking && !doing.keeping_places;
+    frames_leave_short_way();
+    strands_leave_quick_sites();
+    for (size_t at = 0; at < strands_part.used && !strands_noted_quickly; at++)
+        if (strands_part.list[at].block)
+            blocks_clear(strands_part.list[at].done, UINT64_MAX, BLOCK_QUICK);
+    frames_find_short_way();
+}
+
+/* What a plain run has done with these granules, which doesn't go out, is of its course. */
+static void follow(const struct block_touched *touched, uint64_t granules) {
+    course_granules(touched->location, blocks_granules_with(touched->done, BLOCK_READ) & granules,
+                    blocks_granules_with(touched->done, BLOCK_WROTE) & granules);
+}
+
+void strands_set_dead(uintptr_t address, uintptr_t end) {
+    strands_part.has_gaps = true;
+    strands_leave_quick_sites();
+    while (address < end) {
+        struct block_part part = blocks_part_from(address, end);
+        if (doing.plain)
+            follow(&part.in, part.granules);
+        memset(part.in.done + blocks_granule_at(address), 0, (part.end - address + granules_mask) >> granules_shift);
+        part.in.block->dead |= part.granules;
+        address = part.end;
+    }
+}
+
+/* ---- What goes out when the strand has ended ---- */
+
+/* The block that goes out or null, whether the detector hasn't got it, and its granules whose accesses haven't gone.
+   Where the run ends meanwhile, as without room on the stack, they go out then. */
+static struct {
+    const struct block_touched *block;
+    bool waits_for_detector;
+    uint64_t granules[2];
+} going_out;
+
+static struct strand_sites *sites_going_out(bool writes) {
+    return &strands_part.sites[going_out.block - strands_part.list][writes];
+}
+
+static void forget_sites(const struct block_touched *touched) {
+    struct strand_sites *sites = strands_part.sites[touched - strands_part.list];
+    if (doing.keeping_places)
+        sites[false].only = sites[true].only = STRAND_NO_SITES;
+}
+
+static inline uint16_t site_of_granule(const struct strand_sites *sites, unsigned granule) {
+    return sites->only == STRAND_SEVERAL_SITES ? sites->of[granule] : sites->number;
+}
+
+static void put_accesses(bool writes) {
+    const struct block_touched *touched = going_out.block;
+    const struct strand_sites *sites = sites_going_out(writes);
+    for (uint64_t granules = going_out.granules[writes]; granules != 0;
+         going_out.granules[writes] = granules &= granules - 1) {
+        unsigned granule = (unsigned)__builtin_ctzll(granules);
+        uint64_t location = touched->location + 2 * granule;
+        if (doing.plain && !doing.looking && !doing.keeping_places)
+            lines_write_access(writes, location);
+        else
+            lines_put_access(writes, location, site_of_granule(sites, granule));
+    }
+}
+
+/* A record with more words. Where the run isn't plain, it is a step too. */
+static void step_words(unsigned kind, uint64_t location, const uint64_t *words, size_t count) {
+    if (!doing.plain)
+        changes_begin_step();
+    steps_put_words(spbags_record(kind, location), words, count);
+    if (!doing.plain)
+        changes_end_step();
+}
+
+/* Whether two sites take turns among these granules: then they are put. */
+static bool put_turns(uint64_t *at, const struct strand_sites *sites, uint64_t granules) {
+    enum { FEW_TURNS = 6 };
+    const uint16_t first = sites->of[__builtin_ctzll(granules)];
+    uint16_t other = first;
+    uint64_t bits = 0, count = 0;
+    bool is_third = false;
+    for (; granules != 0; granules &= granules - 1) {
+        const uint16_t site = sites->of[__builtin_ctzll(granules)];
+        other = other == first ? site : other;
+        is_third |= site != first && site != other;
+        bits |= (uint64_t)(site != first) << count++;
+    }
+    at[0] = PLACES_TURNS | count << 32 | (uint64_t)other << 16 | first;
+    at[1] = bits;
+    return !is_third && course_count(bits ^ bits << 1) > FEW_TURNS;
+}
+
+/* For the detector's thread: how many records one after another have one site, or two that take turns. */
+static uint64_t *put_sites(uint64_t *at, bool writes) {
+    const struct strand_sites *sites = sites_going_out(writes);
+    uint64_t granules = going_out.granules[writes];
+    if (granules != 0 && sites->only != STRAND_SEVERAL_SITES) {
+        *at++ = (uint64_t)course_count(granules) << 16 | sites->number;
+        return at;
+    }
+    if (granules != 0 && put_turns(at, sites, granules))
+        return at + 2;
+    for (uint64_t last = PLACES_NO_SITE + 1; granules != 0; granules &= granules - 1) {
+        uint64_t site = sites->of[__builtin_ctzll(granules)];
+        if (site != last)
+            *at++ = site;
+        last = site;
+        at[-1] += 1 << 16;
+    }
+    return at;
+}
+
+static void step_block(void) {
+    uint64_t words[3 + 2 * BLOCK_GRANULES] = {going_out.granules[false], going_out.granules[true]}, *end = words + 2;
+    if (doing.plain && doing.keeping_places) {
+        end = put_sites(put_sites(end + 1, false), true);
+        words[2] = (uint64_t)(end - words) - 3;
+    }
+    step_words(steps_block_follows, going_out.block->location, words, (size_t)(end - words));
+}
+
+/* Whether none of the block's places is looked at; then they have passed. */
+static bool passes_by(void) {
+    unsigned count = course_count(going_out.granules[false]) + course_count(going_out.granules[true]);
+    if (!doing.looking || look_next_place - look_place_now <= count)
+        return false;
+    look_place_now += count;
+    return true;
+}
+
+static void put_rest_of_block(void) {
+    if (going_out.waits_for_detector)
+        step_block();
+    going_out.waits_for_detector = false;
+    if (!doing_only_detects() && !passes_by()) {
+        put_accesses(false);
+        put_accesses(true);
+    }
+    forget_sites(going_out.block);
+    going_out.block = NULL;
+}
+
+/* The granules of a block, which is empty then: those that were read, and those that were written. */
+static inline void take(const struct block_touched *touched, uint64_t masks[2]) {
+    struct block *block = touched->block;
+    const uint64_t own_mask = block->has_own ? own_granules(touched->location / 2 << granules_shift) : 0;
+    block->place = 0;
+    masks[false] = blocks_granules_with(touched->done, BLOCK_READ);
+    masks[true] = blocks_granules_with(touched->done, BLOCK_WROTE) & ~own_mask;
+    __builtin_memset(touched->done, 0, BLOCK_GRANULES);
+    blocks_set(touched->done, own_mask, BLOCK_WROTE);
+    block->is_byte_granular = false;
+    block->has_gone_out |= (masks[false] | masks[true]) != 0;
+}
+
+static void put_block(const struct block_touched *touched) {
+    if (!touched->block)
+        return;
+    take(touched, going_out.granules);
+    if (doing.plain)
+        course_granules(touched->location, going_out.granules[false], going_out.granules[true]);
+    if ((going_out.granules[false] | going_out.granules[true]) == 0) {
+        forget_sites(touched);
+        return;
+    }
+    going_out.waits_for_detector = doing_detects();
+    going_out.block = touched;
+    put_rest_of_block();
+}
+
+static void put_blocks(void) {
+    static size_t at;
+    frames_leave_short_way();
+    strands_leave_quick_sites();
+    if (going_out.block)
+        put_rest_of_block();
+    for (; at < strands_part.used; at++) {
+        __builtin_prefetch(strands_part.list[at + STRAND_AHEAD].done);
+        __builtin_prefetch(strands_part.list[at + STRAND_AHEAD].block);
+        put_block(&strands_part.list[at]);
+    }
+    at = strands_part.used = 0;
+    strands_part.has_gaps = false;
+    frames_find_short_way();
+}
+
+void strands_put(void) {
+    recent_end();
+    steps_put_rest();
+    if (doing.looking)
+        look_forget_pending();
+    if (strands_part.used > 0)
+        put_blocks();
+    course_part();
+}
+
+/* ---- The end of a span's lifetime ---- */
+
+/* A block that goes out before the others. */
+static void put_alone(struct block *block) {
+    if (block->place == 0)
+        return;
+    struct block_touched *touched = &strands_part.list[block->place - 1];
+    put_block(touched);
+    touched->block = NULL;
+    strands_part.has_gaps = true;
+}
+
+/* Some blocks in a row go out, at most 64, and the detector is told which of them it has. */
+static void end_blocks(struct block_touched first, size_t count) {
+    uint64_t ended_bits = 0;
+    for (size_t at = 0; at < count; at++) {
+        struct block *block = &first.block[at];
+        put_alone(block);
+        ended_bits |= (uint64_t)block->has_gone_out << at;
+        block->has_gone_out = false;
+        block->dead = 0;
+    }
+    if (doing_detects() && ended_bits != 0)
+        step_words(steps_numbers_end, first.location, &ended_bits, 1);
+}
+
+static void end_span_blocks(size_t span) {
+    size_t count = granules_span_size / blocks_size();
+    for (size_t at = 0; at < count; at += BLOCK_GRANULES)
+        end_blocks(blocks_at(granules_span_first(span) + at * blocks_size()), least(count, BLOCK_GRANULES));
+}
+
+/* If nothing was used after its death, nobody else has accessed these. */
+static void end_dead_blocks(struct strand_lifetime_end end) {
+    struct block_touched first = blocks_dead(end.span, 0), at = first;
+    for (; !end.is_dead_used && at.block < first.block + end.dead; at.block++) {
+        if (doing.plain)
+            follow(&at, UINT64_MAX);
+        memset(at.done, 0, BLOCK_GRANULES);
+        at.done += BLOCK_GRANULES;
+        at.location += 2 * BLOCK_GRANULES;
+    }
+    end_blocks(first, end.dead);
+}
+
+void strands_end_lifetime(struct strand_lifetime_end end) {
+    recent_begin();
+    recent_end();
+    steps_put_rest();
+    frames_leave_short_way();
+    strands_leave_quick_sites();
+    end_span_blocks(end.span);
+    end_dead_blocks(end);
+    frames_find_short_way();
+    recent_finish();
+    granules_begin_lifetime(end.span);
+}
+
+void strands_drop(void) {
+    strands_part.used = 0;
+    going_out.block = NULL;
+}

@@ -1,5 +1,0 @@
-#include "units.h"
-
-unsigned units_shift;
-uintptr_t units_mask;
-struct range units_narrow;
