@@ -96,8 +96,11 @@ class LinkTest(TracerTest):
         self.succeeds(by, *words, "-c", name)
 
     def tracer_beside(self, build):
-        """A copy of the tracer that builds the detector by this script."""
+        """A copy of the tracer, and of the plugins that it has built, that builds the detector by this script."""
         shutil.copytree(TRACER, "there/tracer", ignore=shutil.ignore_patterns("out", "tests", "examples", "measure"))
+        os.makedirs("there/tracer/out")
+        for plugin in glob.glob(f"{TRACER}/out/plugin_*.so"):
+            shutil.copy(plugin, "there/tracer/out")
         os.mkdir("there/crates")
         self.write("there/build", f"#!/bin/sh\n{build}\n")
         os.chmod("there/build", 0o755)
