@@ -3,8 +3,14 @@
     spbags-cc -o fib fib.c
     spbags-run -- ./fib 20
 
-The exit status is 0 if no race was found, 1 if one was, 2 if there is no answer, and 3 if no race was found but
-something wasn't seen or modelled: a line says what. The page tracer/RUN.md explains the report."""
+The exit status:
+
+    0  no race, and everything was seen and modelled
+    1  the report has races
+    2  no answer
+    3  no race, but something wasn't seen or modelled: a warning says what
+
+The page tracer/RUN.md explains the report."""
 import argparse
 import os
 import re
@@ -63,29 +69,29 @@ def options():
     form.add_argument("--sarif", action="store_true",
                       help="print SARIF 2.1.0, for editors and code review; the program's output goes as with --json")
     parser.add_argument("--html", metavar="FILE", help="write the report into this file too, as a page for browsers")
-    parser.add_argument("--color", choices=("auto", "always", "never"), default="auto",
-                        help="colours in the text (default auto: on a terminal, unless NO_COLOR is set)")
+    parser.add_argument("--color", metavar="WHEN", choices=("auto", "always", "never"), default="auto",
+                        help="colours in the text: always, never, or auto, on a terminal unless NO_COLOR is set "
+                             "(default auto)")
     parser.add_argument("--output", metavar="FILE", help="write the report into this file")
     parser.add_argument("--source-root", metavar="DIR", default=os.curdir,
                         help="name the files from this folder (default: the current one)")
     parser.add_argument("--suppress", metavar="FILE",
-                        help="leave out races by the lines race:FUNCTION, race:FILE or variable:NAME of this file")
+                        help="leave out the races that this file names")
     parser.add_argument("--gen-suppressions", action="store_true",
                         help="print lines for --suppress that leave out each pair, in place of the report")
     parser.add_argument("--data-races", action="store_true",
-                        help="leave out races whose accesses are both atomic or both hold one lock")
+                        help="leave out pairs that aren't data races")
     parser.add_argument("--streams", action="store_true", default=os.environ.get("SPBAGS_STREAMS") == "1",
                         help="report children that use one stream or descriptor in an order that isn't determined")
     parser.add_argument("--exitcode", metavar="N", type=status, default=1, help="the status if there is a race (default 1)")
     parser.add_argument("--no-answer-status", metavar="N", type=status, default=2,
                         help="the status if there is no answer (default 2; `git bisect run` needs 125)")
     parser.add_argument("--one-run", action="store_true",
-                        help="run the program once, and look from its start: lines without stacks, for a program that "
-                             "can't be repeated")
+                        help="run the program once, and look from its start: lines without stacks")
     parser.add_argument("--timeout", metavar="S", type=seconds,
                         help="end the program after S seconds, and report what came before")
     parser.add_argument("--incomplete-ok", action="store_true",
-                        help="status 0 if no race was found, even if something wasn't seen or modelled")
+                        help="status 0 in place of 3, which accepts what wasn't seen or modelled")
     parser.add_argument("--unseen-ok", metavar="LIST", type=names, default=[],
                         help="accept calls of these unknown functions: names separated by commas; * matches anything")
     parser.add_argument("--version", action="version", version=f"spbags-run {VERSION}")

@@ -630,6 +630,16 @@ class OutputTest(RunTest):
         with self.subTest("too few words"):
             self.assertEqual(2, self.run_command(SPBAGS_LINES, "./run").status)
 
+    def test_help(self):
+        """RUN.md has its options and statuses, in its words."""
+        said = self.succeeds(SPBAGS_RUN, "--help", COLUMNS="1000").out.replace("`", "")
+        page = re.sub(r"`|\[(.*?)\]\(.*?\)", r"\1", self.read(os.path.join(TRACER, "RUN.md")))
+        for name in (r"--(?!version)[a-z-]+(?: [A-Z]+)?", "[0-9]"):
+            with self.subTest(name):
+                wanted = re.findall(rf"(?m)^ +({name}) +(.*)$", said)
+                self.assertTrue(wanted)
+                self.assertEqual(wanted, re.findall(rf"(?m)^\| ({name}) \| (.*) \|$", page))
+
     def test_versions(self):
         """Each command's own line is the last one; a compiler's comes first."""
         newest = re.search(r"(?m)^## \[([0-9][^]]*)\]", self.read(os.path.join(TRACER, "..", "CHANGELOG.md")))[1]
