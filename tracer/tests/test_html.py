@@ -157,7 +157,7 @@ class BrowserTest(EvilTest):
             self.assertEqual(b"\x89PNG", self.browser.picture()[:4])
 
     def test_many(self):
-        """10,000 pairs open in less than two seconds of the processor's time, in a browser that has shown nothing yet."""
+        """10,000 pairs open in less than two seconds of processor time, in a browser that has shown nothing yet."""
         self.browser = browser.Browser()
         self.addCleanup(self.browser.close)
         self.write("page.html", html_page.page_of(report_of(10000), 1))
