@@ -101,17 +101,17 @@ class TraceTest(TracerTest):
             said = self.run_command(os.environ["SPBAGS"], "measure", "run.trace").out
             self.assertEqual(["spawns 88", "depth 10"], said.splitlines()[-2:])
 
-    # With so few numbers for strands they run out again and again, and with so few blocks strands go out in parts.
-    FEW = {"CC": f"{CC} -DMOST_STRANDS=20 -DMOST_BLOCKS=2"}
-
     def test_strands(self):
+        """With so few numbers for strands they run out again and again."""
         for source, jumps, unit in (("fib.c", False, "4"), ("traps.c", True, "1")):
             with self.subTest(source):
-                self.succeeds(SPBAGS_CC, "-DRACY", "-o", "strands", source, **self.FEW)
-                self.is_same_without_repeats("./strands", jumps=jumps, most_blocks=2, SPBAGS_UNIT=unit)
+                self.succeeds(SPBAGS_CC, "-DRACY", "-o", "strands", source, CC=f"{CC} -DMOST_STRANDS=20")
+                self.is_same_without_repeats("./strands", jumps=jumps, SPBAGS_UNIT=unit)
 
     def test_parts(self):
-        self.succeeds(SPBAGS_CC, "-DRACY", "-o", "strands", "matmul.c", **self.FEW)
+        """With so few blocks strands go out in parts."""
+        few = {"CC": f"{CC} -DMOST_BLOCKS=2"}
+        self.succeeds(SPBAGS_CC, "-DRACY", "-o", "strands", "matmul.c", **few)
         with self.subTest("the same without repeats"):
             self.is_same_without_repeats("./strands", most_blocks=2)
         with self.subTest("spbags-run"):
@@ -121,7 +121,7 @@ class TraceTest(TracerTest):
                 self.has_same_report("./strands")
         with self.subTest("the next wait behind the first access of a part"):
             self.write("full.c", FULL)
-            self.succeeds(SPBAGS_CC, "-o", "full", "full.c", **self.FEW)
+            self.succeeds(SPBAGS_CC, "-o", "full", "full.c", **few)
             self.reports(1, f"it waits next at full.c:{line_of('full.c', '[wait]')}", "--", "./full")
 
     def test_endless(self):
