@@ -307,7 +307,7 @@ class DetectorTest(LinkTest):
 
 class HooksTest(LinkTest):
     """The hooks are compiled once. The tracer here has a few, which do for a library."""
-    HOOKS = {"accesses.c", "look.c", "openmp_loops.c"}
+    HOOKS = {"tell.c", "settings.c", "openmp_parts.c"}
     SETTINGS = {"SPBAGS_CC": "gcc", "SPBAGS_CXX": "g++"}
 
     def setUp(self):
