@@ -99,6 +99,9 @@ static int taken_struct(int count, ...) {
     return (int)first.two;
 }
 CASE(sink = taken_struct(1, *AS(struct middle, big)), R(big, ONE(struct middle)))
+static void begin_list(va_list *list, int count, ...); /* on one line with the call */
+CASE(begin_list(AS(va_list, big), 1, 2), W(big, 0, 24)) static void begin_list(va_list *list, int count, ...) { va_start(*list, count); va_end(*list); }
+CASE(va_copy(*AS(va_list, big), *AS(va_list, other)), R(other, 0, 24), W(big, 0, 24))
 CASE(long many[sink + 4]; many[sink] = *AS(long, big); sink = (int)many[sink], R(big, 0, 8))
 CASE(long *many = __builtin_alloca(64); many[sink] = *AS(long, big); sink = (int)many[sink], R(big, 0, 8))
 

@@ -295,10 +295,25 @@ static void wants_four(void) {
     }
 }
 
+static void sets_four(void) {
+    omp_set_num_threads(4);
+#pragma omp parallel /* [sets four] */
+    {
+#pragma omp barrier
+    }
+}
+
 static void asks_how_many(void) {
 #pragma omp parallel /* [asks how many] */
     if (omp_get_num_threads() > 2)
         one++;
+}
+
+/* clang 14 copies no section of a global array. */
+static void sums_section(void) {
+#pragma omp parallel for reduction(+ : counts[0 : 1])
+    for (int i = 0; i < 8; i++)
+        counts[0] += i; /* [sums section] */
 }
 
 static int *of_master;
@@ -618,7 +633,9 @@ int main(int count, char **words) {
                 {"by_number", by_number, true},
                 {"wants_more", wants_more, true},
                 {"wants_four", wants_four, true},
+                {"sets_four", sets_four, true},
                 {"asks_how_many", asks_how_many, true},
+                {"sums_section", sums_section, true},
                 {"reaches_local_often", reaches_local_often, true},
                 {"reaches_local_once", reaches_local_once, true},
                 {"reaches_own", reaches_own, true},

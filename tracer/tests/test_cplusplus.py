@@ -28,6 +28,17 @@ int main() {
     }
 }
 """
+EARLY = """static int shared;
+static struct Early {
+    Early() {
+#pragma omp task
+        shared = 1;
+        shared = 2;
+#pragma omp taskwait
+    }
+} early;
+int main() {}
+"""
 # A task waits for what comes later in the serial order.
 FUTURE = """#include <future>
 int main() {
@@ -136,6 +147,11 @@ class OpenMPTest(CPlusPlusTest):
         self.build("shared", "shared.cpp", "-fopenmp")
         said = self.run_command(SPBAGS_RUN, "--json", "--", "./shared").out
         self.assertEqual(['"guard": "atomic"'], sorted(set(re.findall('"guard": [^,]*', said))))
+
+    def test_before_main(self):
+        self.write("early.cpp", EARLY)
+        self.build("early", "early.cpp", "-fopenmp")
+        self.assertEqual(["1 5 6"], self.races_in("early.cpp", "./early"))
 
     def test_strings(self):
         self.prints_its_texts(SPBAGS_CPLUSPLUS, os.environ.get("SPBAGS_CXX", "g++"), "-fopenmp", "-DOPENMP")

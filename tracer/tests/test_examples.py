@@ -18,11 +18,15 @@ PRINTED = {"queens_for.cpp": "10 boards, the first 0 2", "search_for.cpp": "6 af
 
 
 class ExampleTest(TracerTest):
+    # Those of the example, which has races with -DRACY.
+    FLAGS = ()
+
     def build_example(self, example, *flags):
-        self.flags = (LEVEL, *flags)
+        self.flags = (LEVEL, *flags, *self.FLAGS)
         self.settings = {"SPBAGS_UNIT": example.unit}
-        self.wanted = example.races() if "-DRACY" in flags else []
-        self.succeeds(compiler_of(example.source), *self.flags, "-o", "program", example.source)
+        self.wanted = example.races() if self.FLAGS else []
+        self.succeeds(compiler_of(example.source), *self.flags, "-c", "-o", "program.o", example.source)
+        self.succeeds(compiler_of(example.source), "-o", "program", "program.o")
 
     def has_races(self, example):
         """Those that are wanted, of run.trace; and gives its notes."""
@@ -42,8 +46,9 @@ class ExampleTest(TracerTest):
     def is_same_inside(self, example):
         """The report of the detector inside is that of the trace, with the checks in the program and without; and
         spbags-run finds the same races by the trace of a program that has no detector."""
-        for name, word in (("unchecked", "--no-inline-checks"), ("traced", "--trace")):
-            self.succeeds(compiler_of(example.source), word, *self.flags, "-o", name, example.source)
+        compiler = compiler_of(example.source)
+        self.succeeds(compiler, "--no-inline-checks", *self.flags, "-o", "unchecked", example.source)
+        self.succeeds(compiler, "--trace", "-o", "traced", "program.o")
         for name in ("program", "unchecked"):
             with self.subTest("the report of the detector inside", name=name):
                 self.has_same_report(f"./{name}", **self.settings)
@@ -52,10 +57,10 @@ class ExampleTest(TracerTest):
 
 
 class CilkTest(ExampleTest):
-    def check_example(self, source, *flags):
+    def check_example(self, source):
         example = Example(source)
-        self.build_example(example, *flags)
-        self.succeeds(CC, LEVEL, *flags, *SERIAL, "-o", "plain", source)
+        self.build_example(example)
+        self.succeeds(CC, *self.flags, *SERIAL, "-o", "plain", source)
         printed = self.run_command("./plain").out
         for version in "12":
             with self.subTest("run", version=version):
@@ -69,9 +74,9 @@ class CilkTest(ExampleTest):
 
 
 class OpenMPTest(ExampleTest):
-    def check_example(self, source, *flags):
+    def check_example(self, source):
         example = Example(source)
-        self.build_example(example, "-fopenmp", *flags)
+        self.build_example(example, "-fopenmp")
         with self.subTest("run"):
             self.succeeds("./program", SPBAGS_TRACE="run.trace", **self.settings)
         with self.subTest("races"):
@@ -80,32 +85,45 @@ class OpenMPTest(ExampleTest):
 
 
 class CPlusPlusTest(ExampleTest):
-    def check_example(self, source, *flags):
+    def check_example(self, source):
         example = Example(source)
-        self.build_example(example, "-Wall", "-Wextra", *flags)
+        self.build_example(example, "-Wall", "-Wextra")
         with self.subTest("races"):
             self.assertEqual(self.wanted, self.races_in(source, "./program"))
-        if not flags:
+        if not self.FLAGS:
             with self.subTest("what it prints"):
                 run = self.run_command("./program", SPBAGS_TRACE="run.trace")
                 self.assertEqual(PRINTED[source] + "\n", run.out)
 
 
 def add_tests(case, pattern):
-    """One for each of these examples, with races and without."""
+    """One for each of these examples."""
     for source in cases.examples(pattern):
         with open(os.path.join(TRACER, "examples", source), encoding="utf-8") as file:
             if CC == "clang" and "cilk_reducer" in file.read():
                 continue  # Only gcc traces reducers.
-        for flags in ((), ("-DRACY",)):
-            def test(self, source=source, flags=flags):
-                self.check_example(source, *flags)
-            setattr(case, re.sub(r"[\W_]+", "_", "_".join(["test", source, *flags])), test)
+
+        def test(self, source=source):
+            self.check_example(source)
+        setattr(case, re.sub(r"\W+", "_", f"test_{source}"), test)
 
 
 add_tests(CilkTest, r"(?!openmp_).*\.c")
 add_tests(OpenMPTest, r"openmp_.*")
 add_tests(CPlusPlusTest, r"(?!openmp_).*\.cpp")
+
+
+class RacyCilkTest(CilkTest):
+    FLAGS = ("-DRACY",)
+
+
+class RacyOpenMPTest(OpenMPTest):
+    FLAGS = ("-DRACY",)
+
+
+class RacyCPlusPlusTest(CPlusPlusTest):
+    FLAGS = ("-DRACY",)
+
 
 if __name__ == "__main__":
     cases.main()

@@ -98,10 +98,10 @@ class PageTest(EvilTest):
 
 @unittest.skipUnless(browser.is_there(), "there is no chromium, so no page is opened")
 class BrowserTest(EvilTest):
-    def setUp(self):
-        super().setUp()
-        self.browser = browser.Browser()
-        self.addCleanup(self.browser.close)
+    @classmethod
+    def setUpClass(cls):
+        cls.browser = browser.Browser()
+        cls.addClassCleanup(cls.browser.close)
 
     def opened(self, size=DESK, scheme="light"):
         self.run_command(SPBAGS_RUN, "--html", "page.html", "--", "./program", "<b>")
@@ -164,7 +164,9 @@ class BrowserTest(EvilTest):
             self.assertEqual(b"\x89PNG", self.browser.picture()[:4])
 
     def test_many(self):
-        """10,000 pairs open in less than two seconds of the processor's time."""
+        """10,000 pairs open in less than two seconds of processor time, in a browser that has shown nothing yet."""
+        self.browser = browser.Browser()
+        self.addCleanup(self.browser.close)
         self.write("page.html", html_page.page_of(report_of(10000), 1))
         self.browser.show_as(*DESK, "light")
         self.browser.open("page.html")

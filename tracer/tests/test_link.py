@@ -96,8 +96,11 @@ class LinkTest(TracerTest):
         self.succeeds(by, *words, "-c", name)
 
     def tracer_beside(self, build):
-        """A copy of the tracer that builds the detector by this script."""
+        """A copy of the tracer, and of the plugins that it has built, that builds the detector by this script."""
         shutil.copytree(TRACER, "there/tracer", ignore=shutil.ignore_patterns("out", "tests", "examples", "measure"))
+        os.makedirs("there/tracer/out")
+        for plugin in glob.glob(f"{TRACER}/out/plugin_*.so"):
+            shutil.copy(plugin, "there/tracer/out")
         os.mkdir("there/crates")
         self.write("there/build", f"#!/bin/sh\n{build}\n")
         os.chmod("there/build", 0o755)
@@ -355,9 +358,10 @@ class HooksTest(LinkTest):
     def test_not_kept(self):
         """An installed tracer has no crates beside it."""
         os.rmdir("there/crates")
-        settings = {**self.SETTINGS, "XDG_CACHE_HOME": "/dev/null"}
+        self.write("no_folder", "")
+        settings = {**self.SETTINGS, "XDG_CACHE_HOME": os.path.abspath("no_folder")}
         with self.subTest("a cache that can't be written"):
-            self.ends_with(0, "as in each link: /dev/null/spbags can't be written .*XDG_CACHE_HOME", *self.link, **settings)
+            self.ends_with(0, "as in each link: .*no_folder/spbags can't be written .*XDG_CACHE_HOME", *self.link, **settings)
         with self.subTest("hooks that are compiled ahead are there for all users"):
             self.succeeds(self.compiler, "--compile-hooks", **settings)
             self.assertEqual("", self.succeeds(*self.link, **settings).errors)

@@ -140,6 +140,8 @@ ANSWERS = [
     ("by_number", 3, "has one thread by OMP_NUM_THREADS", "", "", {"SPBAGS_TEAM": "9", "OMP_NUM_THREADS": "1"}),
     ("wants_more", 3, f"{at('wants')}: this parallel region has 2 threads", "", "", {}),
     ("wants_four", 3, f"{at('wants four')}: this parallel region wants 4 threads", "", "", {}),
+    ("sets_four", 3, f"{at('sets four')}: this parallel region wants 4 threads", "", "", {}),
+    ("sums_section", int(IS_CLANG), "", *(2 * ["sums section"] if IS_CLANG else ["", ""]), {}),
     ("asks_how_many", 3, f"{at('asks how many')}: this parallel region has 2 threads, and asks", "", "", {}),
     ("reaches_local_often", 1, f"{at('reaches local')}: this accesses another", "reaches local", "reaches local", {}),
     ("reaches_local_once", 3, f"{at('reaches local')}: this accesses another", "", "", {}),

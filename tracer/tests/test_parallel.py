@@ -79,7 +79,7 @@ class GroupsTest(ParallelTest):
         """A serial run waits for ever there."""
         self.write("waits.cpp", QUEUE)
         self.succeeds(SPBAGS_CPLUSPLUS, "-o", "waits", "waits.cpp")
-        self.reports(2, "waits for another task or thread, and so for ever", "--timeout", "5", "--", "./waits")
+        self.reports(2, "waits for another task or thread, and so for ever", "--timeout", "2", "--", "./waits")
 
     def test_standard(self):
         """That which a program asks for."""

@@ -32,7 +32,7 @@ def has_headers(compiler):
     return os.path.exists(os.path.join(found, KNOWN))
 
 
-class PluginTest(TracerTest):
+class TextTest(TracerTest):
     def setUp(self):
         super().setUp()
         shutil.copyfile(TEXT, COPY)
@@ -43,6 +43,8 @@ class PluginTest(TracerTest):
         self.succeeds(SPBAGS_CC, "-w", *words, "-o", "text", COPY, **settings)
         self.assertEqual(self.wanted, self.races_in(COPY, "./text", SPBAGS_UNIT="1"))
 
+
+class PluginTest(TextTest):
     def test_text(self):
         """Each level, and each way to put hooks there."""
         for words in (["-O0"], ["-O1"], ["-O1", "--no-inline-checks"], ["-O1", "-fPIC"], ["-O1", "-masm=intel"],
@@ -50,17 +52,19 @@ class PluginTest(TracerTest):
             with self.subTest(words):
                 self.has_races_of_text(*words)
 
-    def test_versions(self):
-        for version in filter(has_headers, VERSIONS):
-            with self.subTest(version):
-                self.has_races_of_text("-O1", CC=version)
-
     def test_without_headers(self):
         self.write(CC, BARE)
         os.chmod(CC, 0o755)
         number = self.succeeds(CC, "-dumpversion").out.strip().partition(".")[0]
         self.ends_with(1, f"install {PACKAGE.format(number)}$", SPBAGS_CC, "-c", "fib.c", CC=os.path.abspath(CC))
         self.assertFalse(os.path.exists("fib.o"))
+
+
+class VersionsTest(TextTest):
+    def test_versions(self):
+        for version in filter(has_headers, VERSIONS):
+            with self.subTest(version):
+                self.has_races_of_text("-O1", CC=version)
 
 
 if __name__ == "__main__":

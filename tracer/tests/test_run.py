@@ -11,6 +11,7 @@ import subprocess
 import sys
 import time
 import urllib.parse
+from concurrent.futures import ThreadPoolExecutor
 
 sys.dont_write_bytecode = True
 import cases
@@ -657,6 +658,16 @@ class OutputTest(RunTest):
         with self.subTest("too few words"):
             self.assertEqual(2, self.run_command(SPBAGS_LINES, "./run").status)
 
+    def test_help(self):
+        """RUN.md has its options and statuses, in its words."""
+        said = self.succeeds(SPBAGS_RUN, "--help", COLUMNS="1000").out.replace("`", "")
+        page = re.sub(r"`|\[(.*?)\]\(.*?\)", r"\1", self.read(os.path.join(TRACER, "RUN.md")))
+        for name in (r"--(?!version)[a-z-]+(?: [A-Z]+)?", "[0-9]"):
+            with self.subTest(name):
+                wanted = re.findall(rf"(?m)^ +({name}) +(.*)$", said)
+                self.assertTrue(wanted)
+                self.assertEqual(wanted, re.findall(rf"(?m)^\| ({name}) \| (.*) \|$", page))
+
     def test_versions(self):
         """Each command's own line is the last one; a compiler's comes first."""
         newest = re.search(r"(?m)^## \[([0-9][^]]*)\]", self.read(os.path.join(TRACER, "..", "CHANGELOG.md")))[1]
@@ -716,11 +727,13 @@ int main(int count, char **words) {
 
     def test_elsewhere(self):
         """A short run shows nothing, nor does a pipe, a file, or a terminal that can't erase."""
-        self.assertEqual("", self.shown(SPBAGS_RUN, "--", "./slow"))
-        self.assertEqual("", self.shown(SPBAGS_RUN, "--", "./slow", "3", TERM="dumb"))
-        self.assertEqual("", self.run_command(SPBAGS_RUN, "--", "./slow", "3").errors)
-        self.succeeds("bash", "-c", 'exec 2>errors; "$@" || [ $? = 1 ]', "bash", SPBAGS_RUN, "--", "./slow", "3")
-        self.assertEqual("", self.read("errors"))
+        slow = [SPBAGS_RUN, "--", "./slow", "3"]
+        self.assertEqual("", self.shown(*slow[:-1]))
+        with ThreadPoolExecutor() as pool:
+            dumb = pool.submit(self.shown, *slow, TERM="dumb")
+            pipe = pool.submit(self.run_command, *slow)
+            self.succeeds("bash", "-c", 'exec 2>errors; "$@" || [ $? = 1 ]', "bash", *slow)
+        self.assertEqual(("", "", ""), (dumb.result(), pipe.result().errors, self.read("errors")))
 
 
 class StatusTest(RunTest):
@@ -887,27 +900,36 @@ class EndlessTest(RunTest):
         found = re.findall(rf"^    \S*{re.escape(name)}:([0-9]+)  ", text, re.MULTILINE)
         return [tags.get(line, line) for line in found]
 
+    def ended_while_it_waits(self, way, number, rows):
+        """What is told of the wait, and after this signal the status and the report."""
+        process = self.start("--json", "--", "./ends", way, COLUMNS="1000")
+        told = [process.stderr.readline() for _ in range(1 + rows)]
+        process.send_signal(number)
+        report = json.loads(process.communicate(timeout=cases.LONG)[0])
+        return told, process.returncode, report
+
     def test_waits_without_end(self):
         """A line says where the program waits. A signal for spbags-run alone ends it, and what came before is
         reported."""
         tail = ["[for ever]", "[spawn end]"]
-        for way, number, said, stack in (("spin", signal.SIGINT, "it waits for ever", ["[spins]"]),
-                                         ("wait", signal.SIGTERM, "and so for ever", ["[waits]"]),
-                                         ("lock", signal.SIGTERM, "and so for ever", ["[locks]"]),
-                                         ("condition", signal.SIGTERM, "and so for ever", ["[wants]"]),
-                                         ("barrier", signal.SIGTERM, "and so for ever", ["[meets]"]),
-                                         ("share", signal.SIGTERM, "and so for ever", ["[shares]"]),
-                                         ("futex", signal.SIGTERM, "and so for ever", ["[sleeps]"]),
-                                         ("doze", signal.SIGTERM, "it waits for ever", ["[dozes]", "[calls doze]"])):
+        ways = (("spin", signal.SIGINT, "it waits for ever", ["[spins]"]),
+                ("wait", signal.SIGTERM, "and so for ever", ["[waits]"]),
+                ("lock", signal.SIGTERM, "and so for ever", ["[locks]"]),
+                ("condition", signal.SIGTERM, "and so for ever", ["[wants]"]),
+                ("barrier", signal.SIGTERM, "and so for ever", ["[meets]"]),
+                ("share", signal.SIGTERM, "and so for ever", ["[shares]"]),
+                ("futex", signal.SIGTERM, "and so for ever", ["[sleeps]"]),
+                ("doze", signal.SIGTERM, "it waits for ever", ["[dozes]", "[calls doze]"]))
+        with ThreadPoolExecutor(len(ways)) as pool:
+            ended = [pool.submit(self.ended_while_it_waits, way, number, len(stack) + len(tail))
+                     for way, number, _, stack in ways]
+        for (way, number, said, stack), one in zip(ways, ended):
             with self.subTest(way):
-                process = self.start("--json", "--", "./ends", way, COLUMNS="1000")
-                line, *rows = [process.stderr.readline() for _ in range(1 + len(stack) + len(tail))]
-                process.send_signal(number)
-                report = json.loads(process.communicate(timeout=cases.LONG)[0])
+                (line, *rows), status, report = one.result()
                 self.assertIn(said, line)
                 self.assertEqual([*stack, *tail], self.lines_in("ends.c", "".join(rows)))
                 self.assertEqual((1, number, True, 1),
-                                 (process.returncode, report["ended"]["signal"], report["stacks"], report["races"]))
+                                 (status, report["ended"]["signal"], report["stacks"], report["races"]))
                 self.assertRegex(report["notes"][0], rf"signal {number} \(.*\), which was sent to spbags-run")
 
     def test_control_c(self):
