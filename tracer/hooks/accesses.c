@@ -120,29 +120,12 @@ ACCESSES(4)
 ACCESSES(8)
 ACCESSES(16)
 
-/* In a run that keeps places. */
-static inline void first_with_site(bool writes, const struct touched *in, unsigned unit, size_t count, uintptr_t code) {
-    const uint64_t site = site_word(false, code);
-    begin_records();
-    list_block(in);
-    for (const unsigned end = unit + (unsigned)count; unit < end; unit++)
-        if (!was_done(writes, in->done[unit])) {
-            note_sites(writes, in, (uint64_t)1 << unit, site);
-            set_bit(&in->done[unit], writes ? WROTE_IT : READ_IT);
-        }
-    *quick_sites_of(writes, in->done) =
-        (struct quick_sites){key_of_sites(writes, in->done), &strands_part.sites[in->block->place - 1][writes]};
-    finish_records();
-}
-
 /* The first of some units that aren't noted quickly. */
 static inline void first_units(bool writes, uintptr_t at, size_t size, uintptr_t code) {
     struct touched in = block_at(at);
     unsigned unit = unit_in_block(at);
     if (__builtin_expect(may_begin_quick(&in), 1))
         begin_quick(writes, &in, unit, size >> USUAL_SHIFT);
-    else if (doing.keeping_places && locations_noted_quickly && in.block->dead == 0 && !is_looked_at(&in))
-        first_with_site(writes, &in, unit, size >> USUAL_SHIFT, code);
     else if (locations_noted_quickly)
         locations_touch_block(writes, at, at + size, code);
     else
@@ -151,34 +134,35 @@ static inline void first_units(bool writes, uintptr_t at, size_t size, uintptr_t
                 locations_note_unit(writes, &in, unit, part, code);
 }
 
-/* This is all where the block's sites are found quickly, and the access has the only one, or one that is known. If a signal
-   ends the run before the number stands there, the site isn't known. */
-static inline bool has_quick_site(bool writes, const uint8_t *done, uintptr_t code) {
-    const struct quick_sites *quick = quick_sites_of(writes, done);
-    if (quick->key != key_of_sites(writes, done) || guards_held > 0)
+/* This is all where sites are noted quickly, for the units of an access of which the first one that isn't noted has
+   this byte: it has the only site, and remembers that, or one of several. If a signal ends the run before the site
+   stands there, it isn't known. */
+static inline bool has_quick_site(bool writes, uintptr_t at, size_t size, uint8_t *done, uintptr_t code,
+                                  uint64_t *remembered) {
+    /* Of this period, whatever a handler of a signal makes of that. */
+    const uint64_t block = remembered_block(done);
+    in_order();
+    const uint16_t place = block_of(blocks_regions[region_of(at)], at, done)->quick_place;
+    if (place == 0 || guards_held > 0)
         return false;
-    if (quick->sites->only == code)
-        return true;
-    const size_t slot = site_slot(code);
-    if (quick->sites->only != SEVERAL_SITES || places_site_keys[slot] != code + 1)
+    const size_t number = (size_t)place - 1;
+    const uint64_t only = strands_part.only_sites[number][writes];
+    uint32_t *site = &strands_part.sites[number][writes][(uintptr_t)done % BLOCK_UNITS];
+    const bool has_two = size >> USUAL_SHIFT == 2 && (uintptr_t)done % 2 == 0 && !was_done(writes, done[1]);
+    if (only == code)
+        *remembered = block;
+    else if (only == SEVERAL_SITES)
+        site[0] = site[has_two] = (uint32_t)code;
+    else
         return false;
-    quick->sites->of[(uintptr_t)done % BLOCK_UNITS] = places_site_numbers[slot];
-    return true;
-}
-
-/* The same of all units of an access, of which the first one that isn't noted has this byte. */
-static inline bool have_quick_site(bool writes, size_t size, uint8_t *done, uintptr_t code) {
-    if (!has_quick_site(writes, done, code))
-        return false;
-    if (size >> USUAL_SHIFT == 2 && (uintptr_t)done % 2 == 0 && !was_done(writes, done[1])) {
+    if (has_two)
         set_bit(&done[1], writes ? WROTE_IT : READ_IT);
-        has_quick_site(writes, done + 1, code);
-    }
     return true;
 }
 
-/* What the text in inline_checks.s calls for such an access that isn't noted quickly, with the byte of the first unit that
-   isn't; of the stack, where it is no repeat, with the mark; and for the rest. That byte says already that this is done. */
+/* What the text in inline_checks.s calls for such an access that isn't noted quickly, with the byte of the first unit
+   that isn't, which says already that this is done, and what the access remembers; of the stack, where it is no repeat,
+   with the mark; and for the rest. */
 __attribute__((noinline)) static void note_first(bool writes, uintptr_t at, size_t size, uint8_t *done,
                                                  uintptr_t code) {
     clear_bit(done, writes ? WROTE_IT : READ_IT);
@@ -186,8 +170,8 @@ __attribute__((noinline)) static void note_first(bool writes, uintptr_t at, size
 }
 
 #define BEHIND_TEST(KIND, WRITES, SIZE) \
-    void __spbags_first_##KIND##SIZE(uintptr_t at, uint8_t *done) { \
-        if (!have_quick_site(WRITES, SIZE, done, CODE)) \
+    void __spbags_block_##KIND##SIZE(uintptr_t at, uint8_t *done, uint64_t *remembered) { \
+        if (!has_quick_site(WRITES, at, SIZE, done, CODE, remembered)) \
             note_first(WRITES, at, SIZE, done, CODE); \
     } \
     void __spbags_stack_##KIND##SIZE(uintptr_t at, uint32_t *mark) { note_usual_marks(WRITES, at, SIZE, mark, CODE); } \

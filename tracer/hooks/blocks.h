@@ -6,6 +6,7 @@
 #ifndef SPBAGS_BLOCKS_H
 #define SPBAGS_BLOCKS_H
 
+#include "doing.h"
 #include "spans.h"
 #include "units.h"
 
@@ -15,8 +16,9 @@ enum { READ_IT = 1, WROTE_IT = 2, QUICK = 0x80 };
 struct block {
     /* The units of heap blocks that died in the strands of their births. */
     uint64_t dead;
-    /* From 1 on the place in the list of the strand; or 0. */
-    uint32_t place;
+    /* From 1 on the place in the list of the strand; and the same while sites are noted there quickly, in a run that
+       keeps places. Or 0. */
+    uint16_t place, quick_place;
     /* Whether units are a thread's own, which never go out; whether the block has gone out in the life that its memory
        has; and whether accesses of it were divided, and it has its place for these. */
     bool has_own, has_gone_out, is_divided;
@@ -44,6 +46,28 @@ static inline size_t region_bytes(void) { return region_units() + (size_t)REGION
 static inline intptr_t row_of(uintptr_t address) {
     intptr_t row = blocks_regions[region_of(address)];
     return __builtin_expect(row > 0, 1) ? row : blocks_other_row(region_of(address));
+}
+
+/* In a run that keeps places an access of the program's text remembers the block that it alone reads, or writes, as far
+   as sites are noted quickly there: by the address of the block's bytes, and the period in the first bits. When that may
+   be so no more, another period begins. */
+#ifndef PERIOD_SHIFT
+#define PERIOD_SHIFT 47
+#endif
+extern uint64_t blocks_period __asm__("__spbags_period");
+/* All periods have been. */
+__attribute__((cold)) void blocks_begin_periods_again(void);
+
+static inline void leave_quick_sites(void) {
+    if (!doing.keeping_places)
+        return;
+    blocks_period += (uint64_t)1 << PERIOD_SHIFT;
+    if (__builtin_expect(blocks_period == 0, 0))
+        blocks_begin_periods_again();
+}
+
+static inline uint64_t remembered_block(const uint8_t *done) {
+    return ((uintptr_t)done & ~(uintptr_t)(BLOCK_UNITS - 1)) | blocks_period;
 }
 
 /* A block with its bytes, and the location of its first unit. */

@@ -75,7 +75,7 @@ static void plain_structure(enum spbags_kind kind, uintptr_t code, bool has_pend
 /* With each record of the structure a strand ends and another begins. */
 __attribute__((noinline)) static void structure(enum spbags_kind kind, uintptr_t code) {
     if (doing.plain) {
-        plain_structure(kind, code, look_is_pending, doing.keeping_places ? site_number(code) : 0);
+        plain_structure(kind, code, look_is_pending, doing.keeping_places ? site_bits(code) : 0);
     } else {
         begin_record();
         records_structure(kind, code);
@@ -92,10 +92,10 @@ ALWAYS_INLINE bool goes_short_way(unsigned records) {
 }
 
 /* One of them, in a step. Behind it the compiler doesn't go on with what it has in registers, which would be too many. */
-ALWAYS_INLINE void quick_structure(enum spbags_kind kind, uintptr_t code) {
+ALWAYS_INLINE void quick_structure(enum spbags_kind kind, uintptr_t code, uint64_t site) {
     course_structure(kind, code);
     procedures_count += procedures_opened_by(kind);
-    step_quickly(kind, 0);
+    step_quickly(kind, 0, site);
     begin_window();
     marks_read += 2;
     in_order();
@@ -149,8 +149,8 @@ void frames_leave_top(uintptr_t code) {
 }
 
 /* In a step this frame ends the short way, which is the newest one and a procedure, and has no children. */
-ALWAYS_INLINE void quick_return(struct frame *frame, uintptr_t code) {
-    quick_structure(SPBAGS_RETURN, code);
+ALWAYS_INLINE void quick_return(struct frame *frame, uintptr_t code, uint64_t site) {
+    quick_structure(SPBAGS_RETURN, code, site);
     frames_top = frame - 1;
     follow_top();
 }
@@ -222,16 +222,17 @@ __attribute__((noinline)) static __spbags_function spawn(__spbags_function calle
 /* The same the short way, where the newest frame is that of the function itself. */
 __spbags_function __spbags_spawn(__spbags_function callee) {
     struct frame *frame = frames_top;
+    uint64_t site;
     if (!goes_short_way(2) || procedures_most - procedures_count < 2 || frame + 1 == frames_end ||
-        frame->end <= STACK_POINTER || frame->kind == CHILD)
+        frame->end <= STACK_POINTER || frame->kind == CHILD || !find_site_bits(CODE, &site))
         return spawn(callee, STACK_POINTER, CODE);
     begin_only_step();
     if (is_unopened(frame)) {
-        quick_structure(SPBAGS_CALL, CODE);
+        quick_structure(SPBAGS_CALL, CODE, site);
         frame->called = true;
     }
     hold_children(frame);
-    quick_structure(SPBAGS_SPAWN, CODE);
+    quick_structure(SPBAGS_SPAWN, CODE, site);
     push_child(callee, STACK_POINTER, steps_so_far());
     end_step();
     return callee;
@@ -261,12 +262,13 @@ ALWAYS_INLINE bool returns_short_way(const struct frame *frame, const volatile v
 ALWAYS_INLINE void return_somehow(const volatile void *result, unsigned long size, uintptr_t stack_pointer,
                                   uintptr_t code) {
     struct frame *frame = frames_top;
-    if (!returns_short_way(frame, result, stack_pointer, 1)) {
+    uint64_t site;
+    if (!returns_short_way(frame, result, stack_pointer, 1) || !find_site_bits(code, &site)) {
         return_child(result, size, stack_pointer, code);
         return;
     }
     begin_only_step();
-    quick_return(frame, code);
+    quick_return(frame, code, site);
     end_step();
 }
 
@@ -282,21 +284,36 @@ __attribute__((noinline)) static void store_and_return(uintptr_t at, unsigned lo
     return_somehow(result, result_size, stack_pointer, code);
 }
 
-void __spbags_stored(const volatile void *at, unsigned long size, const volatile void *result,
-                     unsigned long result_size) {
+ALWAYS_INLINE void store_somehow(uintptr_t unit, unsigned long size, const volatile void *result,
+                                 unsigned long result_size, uintptr_t stack_pointer, uintptr_t code) {
     struct frame *frame = frames_top;
-    const uintptr_t unit = (uintptr_t)at;
     uint32_t *mark = usual_mark(unit);
-    if (!returns_short_way(frame, result, STACK_POINTER, 2) || short_way_bits == 0 || size != 1 << USUAL_SHIFT ||
-        (unit & (size - 1)) != 0 || !is_noted_quickly(unit, mark)) {
-        store_and_return(unit, size, result, result_size, STACK_POINTER, CODE);
+    uint64_t site;
+    if (!returns_short_way(frame, result, stack_pointer, 2) || short_way_bits == 0 || size != 1 << USUAL_SHIFT ||
+        (unit & (size - 1)) != 0 || !is_noted_quickly(unit, mark) || !find_access_bits(code, &site)) {
+        store_and_return(unit, size, result, result_size, stack_pointer, code);
         return;
     }
     begin_only_step();
     if (!is_repeat(true, *mark))
-        step_quickly(SPBAGS_WRITE, quick_location(true, unit, mark));
-    quick_return(frame, CODE);
+        step_quickly(SPBAGS_WRITE, quick_location(true, unit, mark), site);
+    quick_return(frame, code, site);
     end_step();
+}
+
+/* Apart, so that other runs have fewer registers to keep. */
+__attribute__((noinline)) static void store_with_site(uintptr_t unit, unsigned long size, const volatile void *result,
+                                                      unsigned long result_size, uintptr_t stack_pointer,
+                                                      uintptr_t code) {
+    store_somehow(unit, size, result, result_size, stack_pointer, code);
+}
+
+void __spbags_stored(const volatile void *at, unsigned long size, const volatile void *result,
+                     unsigned long result_size) {
+    if (__builtin_expect(doing.keeping_places, 0))
+        store_with_site((uintptr_t)at, size, result, result_size, STACK_POINTER, CODE);
+    else
+        store_somehow((uintptr_t)at, size, result, result_size, STACK_POINTER, CODE);
 }
 
 __attribute__((noinline)) static void sync_function(uintptr_t stack_pointer, uintptr_t code) {
@@ -310,13 +327,14 @@ __attribute__((noinline)) static void sync_function(uintptr_t stack_pointer, uin
 
 void __spbags_sync(void) {
     struct frame *frame = frames_top;
+    uint64_t site;
     if (!goes_short_way(1) || frame->children != procedures_count || frame->kind == CHILD ||
-        frame->end <= STACK_POINTER || frame <= frames_grouped) {
+        frame->end <= STACK_POINTER || frame <= frames_grouped || !find_site_bits(CODE, &site)) {
         sync_function(STACK_POINTER, CODE);
         return;
     }
     begin_only_step();
-    quick_structure(SPBAGS_SYNC, CODE);
+    quick_structure(SPBAGS_SYNC, CODE, site);
     procedures_owners[procedures_count] = NULL;
     frame->children = NONE;
     end_step();
@@ -346,14 +364,15 @@ void __tsan_func_exit(void) {
     if (!doing.tracing)
         return;
     uintptr_t end = FRAME_END;
+    uint64_t site = 0;
     if (end != frames_top->end || !is_alone(frames_top) ||
-        (frames_top->called && (!goes_short_way(1) || frames_top <= frames_grouped))) {
+        (frames_top->called && (!goes_short_way(1) || frames_top <= frames_grouped || !find_site_bits(CODE, &site)))) {
         leave_function(end, CODE);
         return;
     }
     if (frames_top->called) {
         begin_only_step();
-        quick_return(frames_top, CODE);
+        quick_return(frames_top, CODE, site);
         end_step();
         clear_below(end);
     } else {

@@ -39,6 +39,7 @@ static inline void enter_guard(uintptr_t id, const char *name) {
         held_note(id);
     if (guards_held < MOST_GUARDS)
         guards[guards_held++] = (struct guard){id, name};
+    leave_quick_sites();
 }
 
 /* Before all others, so that it is the one that is told where two accesses hold several. */

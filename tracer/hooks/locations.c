@@ -62,12 +62,14 @@ void locations_clear(uintptr_t address, size_t size) {
 
 void locations_follow_views(void) {
     locations_noted_quickly = doing.plain && !reducers_any;
-    locations_stack_noted_quickly = locations_noted_quickly && !doing.looking && !doing.keeping_places;
+    locations_stack_noted_quickly = locations_noted_quickly && !doing.looking;
     short_way_leave();
     leave_quick_sites();
     for (size_t at = 0; at < strands_part.used && !locations_noted_quickly; at++)
-        if (strands_part.list[at].block)
+        if (strands_part.list[at].block) {
             clear_done(strands_part.list[at].done, UINT64_MAX, QUICK);
+            strands_part.list[at].block->quick_place = 0;
+        }
     short_way_find();
 }
 

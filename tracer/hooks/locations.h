@@ -97,7 +97,7 @@ void locations_clear(uintptr_t address, size_t size);
 /* ---- Accesses ---- */
 
 /* Without views of reducers, if the run is plain, a unit is noted quickly. A run that looks needs the location of each
-   unit of the stack, and those of blocks that have a race; and one that keeps places the code of each access. */
+   unit of the stack, and those of blocks that have a race. */
 extern bool locations_noted_quickly, locations_stack_noted_quickly;
 /* After a change of either. */
 void locations_follow_views(void);
@@ -107,7 +107,7 @@ void locations_follow_views(void);
 void locations_note_stack(bool writes, uintptr_t address, uint32_t *mark, unsigned shift, uintptr_t code);
 
 /* Whether there is nothing else to do. */
-static inline bool is_noted_quickly(uintptr_t address, const uint32_t *mark) {
+ALWAYS_INLINE bool is_noted_quickly(uintptr_t address, const uint32_t *mark) {
     return locations_stack_noted_quickly && is_of_running(address) && !(*mark == UNTOUCHED && is_window_full());
 }
 
@@ -126,12 +126,13 @@ ALWAYS_INLINE uint64_t quick_location(bool writes, uintptr_t address, uint32_t *
 
 /* Without calls on the way where there is nothing else to do. */
 ALWAYS_INLINE void note_stack_unit(bool writes, uintptr_t address, uint32_t *mark, unsigned shift, uintptr_t code) {
-    if (__builtin_expect(!is_noted_quickly(address, mark), 0)) {
+    uint64_t site;
+    if (__builtin_expect(!is_noted_quickly(address, mark) || !find_access_bits(code, &site), 0)) {
         locations_note_stack(writes, address, mark, shift, code);
         return;
     }
     begin_step();
-    step(writes ? SPBAGS_WRITE : SPBAGS_READ, quick_location(writes, address, mark));
+    step_at(writes ? SPBAGS_WRITE : SPBAGS_READ, quick_location(writes, address, mark), site);
     end_step();
 }
 

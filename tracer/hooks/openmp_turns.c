@@ -55,6 +55,7 @@ static void enter_stack(struct stack *stack) {
     hidden_updates = stack->hidden_updates;
     guards_held = stack->guards_held;
     memcpy(guards, stack->guards, guards_held * sizeof *guards);
+    leave_quick_sites();
     if (doing.tracing)
         enter_own(stack);
     short_way_find();

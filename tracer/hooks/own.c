@@ -43,6 +43,7 @@ bool own_has_variables(void) { return own_now.part[OWN_VARIABLES].end > own_now.
 /* It counts as written in each strand, or as untouched. */
 static void set_own(struct own_memory memory, bool is_own) {
     uintptr_t unit = memory.first & ~units_mask;
+    leave_quick_sites();
     for (; unit < memory.end && is_of_stack(unit); unit += units_mask + 1)
         *stack_mark(unit) = is_own ? own_mark : UNTOUCHED;
     while (unit < memory.end) {
@@ -51,6 +52,7 @@ static void set_own(struct own_memory memory, bool is_own) {
         if (is_own)
             set_done(part.in.done, part.units, WROTE_IT);
         part.in.block->has_own = true;
+        part.in.block->quick_place = 0;
         unit = part.end;
     }
 }

@@ -247,30 +247,31 @@ static struct {
     uint64_t units[2];
 } going_out;
 
-static struct block_sites *sites_going_out(bool writes) {
-    return &strands_part.sites[going_out.block - strands_part.list][writes];
+static void forget_sites_of(const struct touched *touched) { forget_sites((size_t)(touched - strands_part.list)); }
+
+/* The only site of the block that goes out, or whether it has several, which are its units'. */
+static uint64_t only_site(bool writes) { return strands_part.only_sites[going_out.block - strands_part.list][writes]; }
+
+static const uint32_t *sites_of_units(bool writes) {
+    return strands_part.sites[going_out.block - strands_part.list][writes];
 }
 
-static void forget_sites(const struct touched *touched) {
-    struct block_sites *sites = strands_part.sites[touched - strands_part.list];
-    if (doing.keeping_places)
-        sites[false].only = sites[true].only = NO_SITES;
-}
+static uint16_t number_of_only(uint64_t only) { return only == NO_SITES ? NO_SITE : site_number(only); }
 
-static inline uint16_t site_of_unit(const struct block_sites *sites, unsigned unit) {
-    return sites->only == SEVERAL_SITES ? sites->of[unit] : sites->number;
+static uint16_t number_of_unit(bool writes, unsigned unit) {
+    const uint64_t only = only_site(writes);
+    return only == SEVERAL_SITES ? number_of_short(sites_of_units(writes)[unit]) : number_of_only(only);
 }
 
 static void put_accesses(bool writes) {
     const struct touched *touched = going_out.block;
-    const struct block_sites *sites = sites_going_out(writes);
     for (uint64_t units = going_out.units[writes]; units != 0; going_out.units[writes] = units &= units - 1) {
         unsigned unit = (unsigned)__builtin_ctzll(units);
         uint64_t location = touched->location + 2 * unit;
         if (doing.plain && !doing.looking && !doing.keeping_places)
             write_access(writes, location);
         else
-            put_access(writes, location, site_of_unit(sites, unit));
+            put_access(writes, location, doing.keeping_places ? number_of_unit(writes, unit) : NO_SITE);
     }
 }
 
@@ -283,46 +284,72 @@ static void step_words(unsigned kind, uint64_t location, const uint64_t *words, 
         end_step();
 }
 
-/* Whether two sites take turns among these units: then they are put. */
-static bool put_turns(uint64_t *at, const struct block_sites *sites, uint64_t units) {
-    enum { FEW_TURNS = 6 };
-    const uint16_t first = sites->of[__builtin_ctzll(units)];
-    uint16_t other = first;
-    uint64_t bits = 0, count = 0;
-    bool is_third = false;
-    for (; units != 0; units &= units - 1) {
-        const uint16_t site = sites->of[__builtin_ctzll(units)];
-        other = other == first ? site : other;
-        is_third |= site != first && site != other;
-        bits |= (uint64_t)(site != first) << count++;
-    }
-    at[0] = PLACES_TURNS | count << 32 | (uint64_t)other << 16 | first;
-    at[1] = bits;
-    return !is_third && count_units(bits ^ bits << 1) > FEW_TURNS;
+static inline __m128i four_of_site(const uint32_t *sites, __m128i site) {
+    return _mm_cmpeq_epi32(_mm_load_si128((const void *)sites), site);
 }
 
-/* For the detector's thread: how many records one after another have one site, or two that take turns. */
-static uint64_t *put_sites(uint64_t *at, bool writes) {
-    const struct block_sites *sites = sites_going_out(writes);
-    uint64_t units = going_out.units[writes];
-    if (units != 0 && sites->only != SEVERAL_SITES) {
-        *at++ = (uint64_t)count_units(units) << 16 | sites->number;
-        return at;
+/* The block's units that have this site. */
+static uint64_t units_of_site(const uint32_t *sites, uint32_t site) {
+    const __m128i wanted = _mm_set1_epi32((int)site);
+    uint64_t units = 0;
+    for (unsigned part = 0; part < BLOCK_UNITS; part += 16) {
+        const uint32_t *of = sites + part;
+        const __m128i first = _mm_packs_epi32(four_of_site(of, wanted), four_of_site(of + 4, wanted)),
+                      last = _mm_packs_epi32(four_of_site(of + 8, wanted), four_of_site(of + 12, wanted));
+        units |= (uint64_t)(unsigned)_mm_movemask_epi8(_mm_packs_epi16(first, last)) << part;
     }
-    if (units != 0 && put_turns(at, sites, units))
-        return at + 2;
-    for (uint64_t last = NO_SITE + 1; units != 0; units &= units - 1) {
-        uint64_t site = sites->of[__builtin_ctzll(units)];
+    return units;
+}
+
+/* A bit for each of these units, one behind the other: whether it is one of those. */
+static uint64_t bits_among(uint64_t units, uint64_t those) {
+    uint64_t bits = 0;
+    if (units == UINT64_MAX)
+        return those;
+    for (unsigned count = 0; units != 0; units &= units - 1, count++)
+        bits |= (those >> __builtin_ctzll(units) & 1) << count;
+    return bits;
+}
+
+static uint64_t *put_runs(uint64_t *at, const uint32_t *sites, uint64_t units) {
+    for (uint64_t last = UINT64_MAX; units != 0; units &= units - 1) {
+        const uint32_t site = sites[__builtin_ctzll(units)];
         if (site != last)
-            *at++ = site;
+            *at++ = number_of_short(site);
         last = site;
         at[-1] += 1 << 16;
     }
     return at;
 }
 
+/* For the detector's thread: how many records one after another have one site, or two that take turns. */
+static uint64_t *put_sites(uint64_t *at, bool writes) {
+    enum { FEW_TURNS = 6 };
+    const uint64_t units = going_out.units[writes];
+    if (units == 0)
+        return at;
+    const uint64_t only = only_site(writes), count = count_units(units);
+    if (only != SEVERAL_SITES) {
+        *at++ = count << 16 | number_of_only(only);
+        return at;
+    }
+    const uint32_t *sites = sites_of_units(writes), first = sites[__builtin_ctzll(units)];
+    const uint64_t others = units & ~units_of_site(sites, first);
+    if (others == 0)
+        return put_runs(at, sites, units);
+    const uint32_t other = sites[__builtin_ctzll(others)];
+    const uint64_t bits = bits_among(units, others);
+    if ((others & ~units_of_site(sites, other)) != 0 || count_units(bits ^ bits << 1) <= FEW_TURNS)
+        return put_runs(at, sites, units);
+    *at++ = PLACES_TURNS | count << 32 | (uint64_t)number_of_short(other) << 16 | number_of_short(first);
+    *at++ = bits;
+    return at;
+}
+
 static void step_block(void) {
-    uint64_t words[3 + 2 * BLOCK_UNITS] = {going_out.units[false], going_out.units[true]}, *end = words + 2;
+    uint64_t words[3 + 2 * BLOCK_UNITS], *end = words + 2;
+    words[0] = going_out.units[false];
+    words[1] = going_out.units[true];
     if (doing.plain && doing.keeping_places) {
         end = put_sites(put_sites(end + 1, false), true);
         words[2] = (uint64_t)(end - words) - 3;
@@ -347,7 +374,7 @@ static void put_rest_of_block(void) {
         put_accesses(false);
         put_accesses(true);
     }
-    forget_sites(going_out.block);
+    forget_sites_of(going_out.block);
     going_out.block = NULL;
 }
 
@@ -363,7 +390,7 @@ static void put_block(const struct touched *touched) {
     if (doing.plain)
         course_units(touched->location, going_out.units[false], going_out.units[true]);
     if ((going_out.units[false] | going_out.units[true]) == 0) {
-        forget_sites(touched);
+        forget_sites_of(touched);
         return;
     }
     going_out.waits_for_detector = detects();
@@ -475,7 +502,7 @@ void records_structure(enum spbags_kind kind, uintptr_t code) {
 /* The access is new in its block, which has its place. */
 static void keep_access(bool writes, const struct touched *in, unsigned unit, uint64_t site) {
     if (doing.keeping_places)
-        note_sites(writes, in, (uint64_t)1 << unit, site);
+        strands_note_sites(writes, in, (uint64_t)1 << unit, site);
     in->done[unit] |= writes ? WROTE_IT : READ_IT;
 }
 

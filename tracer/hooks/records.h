@@ -89,22 +89,30 @@ static inline uint64_t site_of_access(uintptr_t unit, uintptr_t code) {
     return site_word(bytes_left_out(unit) != 0, code);
 }
 
+/* Of an access at hand, which fills its unit and holds nothing. */
+ALWAYS_INLINE bool find_access_bits(uintptr_t code, uint64_t *bits) {
+    return find_site_bits(code, bits) && !(doing.keeping_places && (guards_held > 0 || units_narrow.end != 0));
+}
+
 static inline void step_access(bool writes, uint64_t location, uintptr_t address, uintptr_t code) {
     begin_records();
     if (__builtin_expect(doing.looking, 0))
         look_note_pending(writes, location, address, code);
     course_stack(writes, location);
     step_at(writes ? SPBAGS_WRITE : SPBAGS_READ, location,
-            __builtin_expect(doing.keeping_places, 0) ? site_number(site_of_access(address, code)) : 0);
+            __builtin_expect(doing.keeping_places, 0) ? site_bits(site_of_access(address, code)) : 0);
     finish_records();
 }
 
-/* These units of a block have been accessed, in a plain run. None of them is accessed in part if places are kept. */
+/* These units of a block have been accessed, in a plain run. None of them is accessed in part if places are kept; then
+   sites are noted there quickly from now on. */
 static inline void note_in_block(bool writes, const struct touched *in, uint64_t units, uintptr_t code) {
     begin_records();
     list_block(in);
-    if (__builtin_expect(doing.keeping_places, 0))
-        note_sites(writes, in, units, site_word(false, code));
+    if (__builtin_expect(doing.keeping_places, 0)) {
+        strands_note_sites(writes, in, units, site_word(false, code));
+        in->block->quick_place = in->block->dead == 0 ? in->block->place : 0;
+    }
     set_done(in->done, units, writes ? WROTE_IT : READ_IT);
     finish_records();
 }
@@ -116,7 +124,7 @@ static inline void note_one_in_block(bool writes, const struct touched *in, unsi
     if (__builtin_expect(doing.looking, 0))
         look_note_pending(writes, in->location + 2 * unit, address, code);
     if (__builtin_expect(doing.keeping_places, 0))
-        note_sites(writes, in, (uint64_t)1 << unit, site_of_access(address, code));
+        strands_note_sites(writes, in, (uint64_t)1 << unit, site_of_access(address, code));
     set_bit(&in->done[unit], writes ? WROTE_IT : READ_IT);
     finish_records();
 }

@@ -153,7 +153,7 @@ __attribute__((constructor(101))) static void start(void) {
     if (name && !doing.looking)
         put_header();
     doing.plain = !divided_any && !doing.writing_repeats && course_last_record == UINT64_MAX;
-    doing.plainest = doing.plain && !doing.looking && !doing.keeping_places && doing.version == 2;
+    doing.plainest = doing.plain && !doing.looking && doing.version == 2;
     locations_follow_views();
     doing.tracing = true;
     short_way_find();

@@ -42,11 +42,13 @@ void steps_pass_on(void);
 enum { SITE_SHIFT = 48 };
 static const uint64_t without_site = ((uint64_t)1 << SITE_SHIFT) - 1;
 
-/* Before the pause. */
-static inline void step_quickly(unsigned kind, uint64_t location) { *steps_next++ = spbags_record(kind, location); }
+/* Before the pause; with the bits of the site. */
+static inline void step_quickly(unsigned kind, uint64_t location, uint64_t site) {
+    *steps_next++ = spbags_record(kind, location) | site;
+}
 
 static inline void step_at(unsigned kind, uint64_t location, uint64_t site) {
-    *steps_next++ = spbags_record(kind, location) | site << SITE_SHIFT;
+    step_quickly(kind, location, site);
     if (__builtin_expect(steps_next >= steps_pause, 0))
         steps_look_on();
 }

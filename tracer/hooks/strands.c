@@ -5,12 +5,11 @@
 #include "records.h"
 
 struct part_of_strand strands_part;
-struct quick_sites strands_quick_sites[QUICK_SITES];
 
 static bool is_left(struct touched touched) {
     if (!touched.block)
         return false;
-    touched.block->place = 0;
+    touched.block->place = touched.block->quick_place = 0;
     return (units_with(touched.done, READ_IT) | units_with(touched.done, WROTE_IT)) != 0 || touched.block->is_divided;
 }
 
@@ -22,12 +21,14 @@ static void drop_empty(void) {
     for (size_t at = 0; at < used; at++) {
         if (!is_left(strands_part.list[at])) {
             memset(strands_part.list[at].done, 0, strands_part.list[at].block ? BLOCK_UNITS : 0);
-            strands_part.sites[at][false].only = strands_part.sites[at][true].only = NO_SITES;
+            forget_sites(at);
             continue;
         }
         if (strands_part.used < at && doing.keeping_places) {
+            memcpy(strands_part.only_sites[strands_part.used], strands_part.only_sites[at],
+                   sizeof *strands_part.only_sites);
             memcpy(strands_part.sites[strands_part.used], strands_part.sites[at], sizeof *strands_part.sites);
-            strands_part.sites[at][false].only = strands_part.sites[at][true].only = NO_SITES;
+            forget_sites(at);
         }
         place_block(&strands_part.list[at]);
     }
@@ -43,22 +44,28 @@ void strands_make_room(void) {
         records_put_strand();
 }
 
-void strands_note_others(bool writes, const struct touched *in, uint64_t units, uint64_t word) {
-    struct block_sites *sites = &strands_part.sites[in->block->place - 1][writes];
-    const uint16_t number = site_number(word);
-    if (sites->only == NO_SITES) {
-        sites->number = number;
-        sites->only = word;
-        return;
-    }
-    if (sites->only != SEVERAL_SITES) {
-        uint64_t before = units_with(in->done, writes ? WROTE_IT : READ_IT);
-        for (unsigned unit = 0; unit < BLOCK_UNITS; unit++)
-            sites->of[unit] = (before >> unit & 1) != 0 ? sites->number : NO_SITE;
-        sites->only = SEVERAL_SITES;
-    }
+static void set_sites(uint32_t *sites, uint64_t units, uint64_t word) {
+    const uint32_t site = short_site(word);
     for (; units != 0; units &= units - 1)
-        sites->of[__builtin_ctzll(units)] = number;
+        sites[__builtin_ctzll(units)] = site;
+}
+
+/* Where the only one was another, each unit has its own from now on. */
+void strands_note_sites(bool writes, const struct touched *in, uint64_t units, uint64_t word) {
+    const size_t number = in->block->place - 1u;
+    uint64_t *only = &strands_part.only_sites[number][writes];
+    uint32_t *sites = strands_part.sites[number][writes];
+    if (*only == NO_SITES)
+        *only = word;
+    if (*only == word)
+        return;
+    if (*only != SEVERAL_SITES) {
+        leave_quick_sites();
+        memset(sites, 0, BLOCK_UNITS * sizeof *sites);
+        set_sites(sites, units_with(in->done, writes ? WROTE_IT : READ_IT), *only);
+        *only = SEVERAL_SITES;
+    }
+    set_sites(sites, units, word);
 }
 
 void strands_follow(const struct touched *touched, uint64_t units) {
@@ -75,6 +82,7 @@ void strands_set_dead(uintptr_t address, uintptr_t end) {
             strands_follow(&part.in, part.units);
         memset(part.in.done + unit_in_block(address), 0, (part.end - address + units_mask) >> units_shift);
         part.in.block->dead |= part.units;
+        part.in.block->quick_place = 0;
         address = part.end;
     }
 }

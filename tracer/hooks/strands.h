@@ -30,14 +30,9 @@ static inline bool is_gathered(uint64_t location) { return location % 2 == 0 && 
 /* So many blocks before one goes out, it is looked for. */
 enum { AHEAD = 8 };
 
-/* The sites of a block's reads, or of its writes: none, the word and the number of the only one, or of each unit the
-   number. */
+/* The site of a block's reads, or of its writes: none, the word of the only one, or that there are several. Then each
+   unit has a short one, by places.h. */
 enum { NO_SITES = 0, SEVERAL_SITES = 1 };
-struct block_sites {
-    uint64_t only;
-    uint16_t number;
-    uint16_t of[BLOCK_UNITS];
-};
 
 /* The part at hand: how many went before, its blocks, without one where that has gone out alone, and the sites of their
    accesses where these are kept. */
@@ -47,14 +42,16 @@ extern struct part_of_strand {
     /* Whether something was left out. */
     bool has_gaps;
     struct touched list[MOST_BLOCKS + AHEAD];
-    struct block_sites sites[MOST_BLOCKS][2];
+    uint64_t only_sites[MOST_BLOCKS][2];
+    _Alignas(16) uint32_t sites[MOST_BLOCKS][2][BLOCK_UNITS];
 } strands_part;
 
 static inline uint64_t part_now(void) { return strands_part.before + 1; }
 
 static inline void place_block(const struct touched *touched) {
+    _Static_assert(MOST_BLOCKS <= UINT16_MAX, "a place has no room for its number");
     strands_part.list[strands_part.used] = *touched;
-    touched->block->place = (uint32_t)++strands_part.used;
+    touched->block->place = (uint16_t)++strands_part.used;
 }
 
 /* Makes room for another block; or what the strand has done so far goes out, by the records. */
@@ -69,34 +66,12 @@ static inline void list_block(const struct touched *touched) {
     place_block(touched);
 }
 
-/* Those of some blocks, by the bytes of the blocks and the kind of the accesses, while nothing else is to be done at an
-   access of theirs. */
-enum { QUICK_SITES = 16 };
-extern struct quick_sites {
-    uintptr_t key;
-    struct block_sites *sites;
-} strands_quick_sites[QUICK_SITES];
-
-static inline uintptr_t key_of_sites(bool writes, const uint8_t *done) {
-    return ((uintptr_t)done & ~(uintptr_t)(BLOCK_UNITS - 1)) | writes;
-}
-
-static inline struct quick_sites *quick_sites_of(bool writes, const uint8_t *done) {
-    return &strands_quick_sites[((uintptr_t)done / BLOCK_UNITS * 2 + writes) % QUICK_SITES];
-}
-
-static inline void leave_quick_sites(void) {
-    if (doing.keeping_places)
-        memset(strands_quick_sites, 0, sizeof strands_quick_sites);
-}
-
-/* Where that isn't the only one. */
-void strands_note_others(bool writes, const struct touched *in, uint64_t units, uint64_t word);
-
 /* The site of these units, which are new in a block that has its place. */
-static inline void note_sites(bool writes, const struct touched *in, uint64_t units, uint64_t word) {
-    if (strands_part.sites[in->block->place - 1][writes].only != word)
-        strands_note_others(writes, in, units, word);
+void strands_note_sites(bool writes, const struct touched *in, uint64_t units, uint64_t word);
+/* Those of the block with this number in the list have gone out, if there were any. */
+static inline void forget_sites(size_t number) {
+    if (doing.keeping_places)
+        strands_part.only_sites[number][false] = strands_part.only_sites[number][true] = NO_SITES;
 }
 
 /* What a plain run has done with these units, which doesn't go out, is of its course. */
@@ -109,7 +84,7 @@ void strands_set_dead(uintptr_t address, uintptr_t end);
 static inline void take_units(const struct touched *touched, uint64_t masks[2]) {
     struct block *block = touched->block;
     const uint64_t own_mask = block->has_own ? own_units(touched->location / 2 << units_shift) : 0;
-    block->place = 0;
+    block->place = block->quick_place = 0;
     masks[false] = units_with(touched->done, READ_IT);
     masks[true] = units_with(touched->done, WROTE_IT) & ~own_mask;
     __builtin_memset(touched->done, 0, BLOCK_UNITS);
