@@ -1,10 +1,11 @@
 # The test for a repeat at an access, in place of the call of its hook: the compiler's plugin puts it there. The
 # address is in %rdi, and what a call may change is free. An access goes the short way, as in program/accesses.c, if
 # the stack pointer is below the end of that way, and the address is a multiple of the size. A region of the stack has a row
-# below 0, and marks there: then a repeat calls nothing. Others have a byte for each granule: then a repeat calls nothing, nor
-# does the first access to granules whose bytes say BLOCK_QUICK, which is the sign. It says there what is done before it
-# knows that, so that a handler of a signal between changes nothing; for all else `first` takes that back, `stack` is called
-# where not all marks are of repeats, and `long` for the rest.
+# below 0, and marks there: then a repeat calls nothing. Others have a byte for each unit: then a repeat calls nothing, nor
+# does the first access to units whose bytes say QUICK, which is the sign, or to those of the block that this access
+# remembers, by blocks.h. It says there what is done before it knows that, so that a handler of a signal between changes
+# nothing; for all else `block` takes that back, `stack` is called where not all marks are of repeats, and `long` for the
+# rest.
 #
 # What may become a part of a shared library, where the assembler knows __spbags_is_shared, has addresses in a table.
 .macro __spbags_global BEFORE, NAME, BEHIND, FREE
@@ -14,6 +15,13 @@
 .else
 	\BEFORE \NAME(%rip)\BEHIND
 .endif
+.endm
+# What an access remembers is 9: whether that is the block with this byte.
+.macro __spbags_remembered
+	leaq (%rsi,%rax), %rcx
+	andq $-64, %rcx
+	__spbags_global orq, __spbags_period, ", %rcx", %rdx
+	cmpq %rcx, 9f(%rip)
 .endm
 .macro __spbags_inline_check KIND, SIZE, BIT, BITS, IS_REPEAT, IS_NONE
 	__spbags_global cmpq, __spbags_short_way_end, ", %rsp", %rax
@@ -41,7 +49,7 @@
 .else
 	jne 2f
 	orb $\BIT, (%rsi,%rax)
-	jns 3f
+	jns 7f
 2:
 	movzbl 1(%rsi,%rax), %ecx
 	testb $\BITS, %cl
@@ -50,10 +58,19 @@
 	js 6f
 	incq %rsi
 .endif
+	__spbags_remembered
+	je 6f
 3:
 	addq %rax, %rsi
-	call __spbags_first_\KIND\SIZE
+	leaq 9f(%rip), %rdx
+	call __spbags_block_\KIND\SIZE
 	jmp 6f
+.if \SIZE == 8
+7:
+	__spbags_remembered
+	je 2b
+	jmp 3b
+.endif
 4:
 	je 1f
 	addq %rdi, %rsi
@@ -70,6 +87,11 @@
 1:
 	call __spbags_long_\KIND\SIZE
 6:
+	.pushsection spbags_sites, "aw", @nobits
+	.balign 8
+9:
+	.zero 8
+	.popsection
 .endm
 .macro __spbags_read SIZE
 	__spbags_inline_check read, \SIZE, 1, 3, jae, jb

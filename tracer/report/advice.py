@@ -1,5 +1,4 @@
 """What may be missing between two accesses that race: by what the children are of, and by what the lines do."""
-from report import expressions
 from report import source_lines
 from report.result import NO_OPENMP
 from report.stack_rows import place
@@ -52,6 +51,7 @@ def of_cilk(pair, unit):
 
 
 def is_update(position):
+    from report import expressions
     above, below = (source_lines.text_of(position._replace(line=position.line + step)) for step in (-1, 1))
     return expressions.updates(source_lines.text_of(position), above, below)
 

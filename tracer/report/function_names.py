@@ -4,7 +4,6 @@ import os
 import re
 
 from report import source_lines
-from tokens import tokens_of
 
 # What gcc and clang call a lambda.
 LAMBDA = re.compile(r"\{lambda\(|'lambda[0-9]*'|\$_[0-9]+\b")
@@ -50,6 +49,7 @@ def line_of_lambda(position):
 @functools.lru_cache
 def lambdas_of(file):
     """The first and the last line of each lambda of a source."""
+    from tokens import tokens_of
     tokens = tokens_of(source_lines.without_comments("\n".join(source_lines.lines_of(file))))
     found = []
     for at, token in enumerate(tokens):

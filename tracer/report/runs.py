@@ -2,7 +2,6 @@
 import ctypes
 import os
 import select
-import shutil
 import signal
 import stat
 import struct
@@ -34,9 +33,15 @@ def checker():
     return os.path.realpath(named)
 
 
+def program_named(name):
+    """The file that a command of this name starts, or None."""
+    names = [name] if os.path.dirname(name) else [os.path.join(folder, name) for folder in os.get_exec_path()]
+    return next((found for found in names if os.path.isfile(found) and os.access(found, os.X_OK)), None)
+
+
 def traceable(name):
     """The program of this name, if spbags-cc has compiled it, and whether the detector is inside."""
-    found = shutil.which(name)
+    found = program_named(name)
     if not found:
         raise Failure(f"{name}: there is no such program")
     with open(found, "rb") as file:
@@ -203,9 +208,12 @@ class Run:
 
 
 def disk_file():
-    """A file without a name."""
-    import tempfile
-    return tempfile.TemporaryFile(buffering=0)
+    """A file without a name. Few systems need the module for that, which takes long."""
+    try:
+        return open(os.open(os.environ.get("TMPDIR") or "/tmp", os.O_TMPFILE | os.O_RDWR, 0o600), "w+b", buffering=0)
+    except OSError:
+        import tempfile
+        return tempfile.TemporaryFile(buffering=0)
 
 
 def memory_file():

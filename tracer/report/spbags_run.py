@@ -215,6 +215,8 @@ def text_of(found, chosen, output):
 
 def width():
     """That of what shows the text."""
+    if not os.environ.get("COLUMNS") and not os.isatty(1):
+        return 120
     import shutil
     return shutil.get_terminal_size((120, 24)).columns
 

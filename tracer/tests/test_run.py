@@ -275,7 +275,8 @@ class ReportTest(RunTest):
         status, report = self.found()
         self.assertEqual((3, 0, []), (status, report["races"], report["pairs"]))
         modules = self.run_command(sys.executable, "-X", "importtime", SPBAGS_RUN, "--", "./run").errors
-        for name, is_read in (("runs", True), ("pairs", False), ("variables", False)):
+        for name, is_read in (("report.runs", True), ("report.pairs", False), ("report.variables", False),
+                              ("tokens", False)):
             self.assertEqual(is_read, re.search(rf"(?m)\| +{name}$", modules) is not None, name)
 
 
