@@ -174,8 +174,7 @@ static gimple_seq frame_test(const char *text, location_t location) {
     gimple_call_set_lhs(frame, pointer);
     gimple_seq_add_stmt(&sequence, frame);
     gimple_seq_add_stmt(&sequence, test(text, pointer));
-    for (gimple_stmt_iterator at = gsi_start(sequence); !gsi_end_p(at); gsi_next(&at))
-        gimple_set_location(gsi_stmt(at), location);
+    locate(sequence, location);
     return sequence;
 }
 
