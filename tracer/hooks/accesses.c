@@ -177,7 +177,7 @@ static inline bool have_quick_site(bool writes, size_t size, uint8_t *done, uint
     return true;
 }
 
-/* What the text in inline_checks.s calls for such an access that isn't noted quickly, with the byte of the first unit that
+/* What the text in inline_checks.h calls for such an access that isn't noted quickly, with the byte of the first unit that
    isn't; of the stack, where it is no repeat, with the mark; and for the rest. That byte says already that this is done. */
 __attribute__((noinline)) static void note_first(bool writes, uintptr_t at, size_t size, uint8_t *done,
                                                  uintptr_t code) {

@@ -10,12 +10,12 @@
    hook finds saved in its own frame. */
 #define FRAME_END (*(uintptr_t *)__builtin_frame_address(0) + 16)
 
-/* By these numbers the text in inline_checks.s knows a frame. */
+/* By these numbers the text in inline_checks.h knows a frame. */
 _Static_assert(offsetof(struct frame, end) == 0 && offsetof(struct frame, kind) == 8 &&
                    offsetof(struct frame, called) == 12 && offsetof(struct frame, children) == 16 &&
                    offsetof(struct frame, node) == 20 && offsetof(struct frame, position) == 24 &&
                    sizeof(struct frame) == 56 && FUNCTION == 0 && CHILD == 2 && NONE == 0,
-               "inline_checks.s takes a frame for another one");
+               "inline_checks.h takes a frame for another one");
 
 struct frame *frames_all, *frames_end, *frames_top, *frames_silent, *frames_grouped, **procedures_owners;
 uint32_t procedures_count, procedures_most;

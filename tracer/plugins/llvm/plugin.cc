@@ -1,6 +1,6 @@
 /* A plugin of clang that puts the tracer's hooks into the code of a program: beside each load and store of its text, and
    at each function's entry and exit. clang loads it by -fpass-plugin, and by -Xclang -load too before -mllvm
-   -spbags-checks=FILE, which names the assembler's macros of the tests that stand inline; without these hooks are called.
+   -spbags-checks: then tests stand inline, and without that hooks are called.
 
    accesses.h puts the hooks of accesses before any optimization; at last own.h drops those of what turns out to be a
    function's alone, frames.h puts those of entry and exit, and checks.h tests in place of calls. */
