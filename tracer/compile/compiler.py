@@ -21,8 +21,6 @@ TRACED_GCC = [*PLAIN, "-fstack-reuse=none", "-mno-accumulate-outgoing-args", "-m
               "-fno-combine-stack-adjustments", "-fno-defer-pop"]
 TRACED_CLANG = [*PLAIN, "-mllvm", "-no-stack-coloring", "-Qunused-arguments"]
 COMPILERS = [["g++"], ["clang++"]] if IS_CPLUSPLUS else [["gcc"], ["clang"]]
-# The tests, as macros of the assembler.
-CHECKS = os.path.join(HERE, "hooks", "inline_checks.s")
 # What each source asks for, and what the hooks define. No tool takes it out of an object.
 MARK = "__spbags_traced"
 MARKED = f'__asm__(".pushsection .spbags,\\"\\",@progbits\\n\\t.quad {MARK}\\n\\t.popsection");\n'
@@ -87,7 +85,7 @@ class Compiler:
         command = [*self.command, *self.words.compiling, *openmp, self.words.level,
                    *(TRACED_CLANG if self.is_clang else TRACED_GCC)]
         is_compiled = ends_with != "-fsyntax-only"
-        checks = CHECKS if self.words.inline_checks and is_compiled else None
+        checks = self.words.inline_checks and is_compiled
         command += plugin.options(self.plugin(folder), self.is_clang, checks)
         command += [self.aligned, "-Wa,--no-warn"] if checks else []
         run(*command, ends_with, text_name, *(["-o", to] if is_compiled else []))

@@ -72,9 +72,9 @@ def build(compiler, is_clang, folder, fail):
 
 
 def options(built, is_clang, checks):
-    """The compiler's words for the plugin; the tests' macros are in a file, if there are to be any."""
+    """The compiler's words for the plugin, and whether tests are to stand inline."""
     if not is_clang:
         name = os.path.splitext(os.path.basename(built))[0]
-        return ["-fplugin=" + built, *([f"-fplugin-arg-{name}-checks={checks}"] if checks else [])]
-    early = ["-Xclang", "-load", "-Xclang", built, "-mllvm", f"-spbags-checks={checks}"]
+        return ["-fplugin=" + built, *([f"-fplugin-arg-{name}-checks"] if checks else [])]
+    early = ["-Xclang", "-load", "-Xclang", built, "-mllvm", "-spbags-checks"]
     return ["-fpass-plugin=" + built, *(early if checks else [])]

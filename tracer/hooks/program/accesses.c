@@ -162,7 +162,7 @@ static inline bool has_quick_site(bool writes, uintptr_t at, size_t size, uint8_
     return true;
 }
 
-/* What the text in inline_checks.s calls for such an access that isn't noted quickly, with the byte of the first
+/* What the text in inline_checks.h calls for such an access that isn't noted quickly, with the byte of the first
    granule that isn't, which says already that this is done, and what the access remembers; of the stack, where it is no
    repeat, with the mark; and for the rest. */
 __attribute__((noinline)) static void note_first(bool writes, uintptr_t at, size_t size, uint8_t *done,
