@@ -35,8 +35,7 @@ long __spbags_counter(void);
 /* A reducer's view, of so many bytes, begins; is updated; has its value read or set; or ends. If what another schedule
    would do beside isn't known, the note says so. Between the last two an update accesses what else the view has. */
 void __spbags_reducer(const volatile void *__view, unsigned long __size, const char *__note);
-/* Several one behind another begin, each of so many bytes; and all that are in so many bytes end. */
-void __spbags_reducers(const volatile void *__views, unsigned long __size, unsigned long __each, const char *__note);
+/* All that are in so many bytes end. */
 void __spbags_reducers_end(const volatile void *__views, unsigned long __size);
 void *__spbags_update(const volatile void *__view, unsigned long __size, const char *__note);
 void *__spbags_value(const volatile void *__view, unsigned long __size, const char *__note);

@@ -27,8 +27,6 @@ STACK_GCC = "-mno-accumulate-outgoing-args -mno-red-zone -fno-combine-stack-adju
 TRACED_GCC = [*PLAIN, "-fstack-reuse=none", *STACK_GCC.split()]
 TRACED_CLANG = [*PLAIN, "-mllvm", "-no-stack-coloring", "-Qunused-arguments"]
 COMPILERS = [["g++"], ["clang++"]] if IS_CPLUSPLUS else [["gcc"], ["clang"]]
-# The tests, as macros of the assembler.
-CHECKS = os.path.join(HERE, "hooks", "inline_checks.s")
 # What each source asks for, and what the hooks define. No tool takes it out of an object.
 MARK = "__spbags_traced"
 MARKED = f'__asm__(".pushsection .spbags,\\"\\",@progbits\\n\\t.quad {MARK}\\n\\t.popsection");\n'
@@ -120,7 +118,7 @@ class Compiler:
 
         command = [*self.command, *self.words.compiling, *openmp, self.words.level]
         command += TRACED_CLANG if self.is_clang else TRACED_GCC
-        checks = CHECKS if self.words.inline_checks and to else None
+        checks = self.words.inline_checks and bool(to)
         command += plugin.options(self.plugin(folder), self.is_clang, checks)
         command += [self.aligned, "-Wa,--no-warn"] if checks else []
         run(*command, ends_with, text_name, *(["-o", to] if to else []))

@@ -72,10 +72,10 @@ def build(compiler: list[str], is_clang: bool, folder: str) -> str:
     return made
 
 
-def options(built: str, is_clang: bool, checks: str | None) -> list[str]:
-    """The compiler's words for the plugin; the tests' macros are in a file, if there are to be any."""
+def options(built: str, is_clang: bool, checks: bool) -> list[str]:
+    """The compiler's words for the plugin, and whether tests are to stand inline."""
     if not is_clang:
         name = os.path.splitext(os.path.basename(built))[0]
-        return ["-fplugin=" + built, *([f"-fplugin-arg-{name}-checks={checks}"] if checks else [])]
-    early = ["-Xclang", "-load", "-Xclang", built, "-mllvm", f"-spbags-checks={checks}"]
+        return ["-fplugin=" + built, *([f"-fplugin-arg-{name}-checks"] if checks else [])]
+    early = ["-Xclang", "-load", "-Xclang", built, "-mllvm", "-spbags-checks"]
     return ["-fpass-plugin=" + built, *(early if checks else [])]

@@ -449,7 +449,7 @@ class Batch:
     def build(self):
         batch = self.numbers[0] // BATCH
         ways = ("-O1", "-O0")[batch % 2], *[[], ["--no-inline-checks"]][batch // 2 % 2]
-        limits = " -DFREE_SPANS=0" + ("", " -DSTRAND_MOST_BLOCKS=3")[batch // 4 % 2]
+        limits = " -DFREE_SPANS=0" + ("", " -DSTRAND_MOST_BLOCKS=3 -DPERIOD_SHIFT=61")[batch // 4 % 2]
         self.run(os.path.join(TRACER, self.compiler), *DETECTOR, *ways, "-w", "-o", self.name,
                  self.name + self.ending, CC=os.environ.get("CC", "gcc") + limits)
         self.run("gcc" if not os.environ.get("CC") else os.environ["CC"], "-w", "-O1", "-I" + HERE, "-o",

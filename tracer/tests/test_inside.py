@@ -42,6 +42,7 @@ race 130 write 4 write 8
 # Units whose sites take turns, some more than others, with some left out.
 TURNS = """#include <cilk/cilk.h>
 static int cells[1000];
+static long long wide[500];
 static void set(unsigned random, int step) {
     for (int i = 0; i < 1000; i += step) {
         random = 1664525 * random + 1013904223;
@@ -53,6 +54,10 @@ static void set(unsigned random, int step) {
             cells[i + 1] = 3;
         else
             cells[i] = 4;
+        if (random >> 31)
+            wide[i / 2] = i;
+        else if (random >> 29 & 1)
+            wide[i / 2] += wide[i / 3];
     }
 }
 int main(void) {
@@ -280,7 +285,7 @@ class OutputsTest(InsideTest):
         """A record has one site, whoever keeps it: the detector's thread, as the program goes the short way or not, or
         who writes the trace."""
         self.write("turns.c", TURNS)
-        for program in ("cilksort", "traps", "turns"):
+        for program in ("cilksort", "fib", "traps", "turns"):
             self.build(program, program + ".c", "-w", "-DRACY")
             with self.subTest(program):
                 wanted = self.sites_of(program, "SPBAGS_TRACE", SPBAGS_LAST="1000000000")

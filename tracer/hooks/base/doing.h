@@ -12,7 +12,7 @@ extern struct doing {
     /* A record goes to the detector or into the trace, or is counted by a run that looks, and that is all. Few runs do
        anything else. */
     bool plain;
-    /* And it neither looks nor keeps places, nor writes version 1. */
+    /* And it neither looks nor writes version 1. */
     bool plainest;
     /* Each record's place is kept, as long as there is room. */
     bool keeping_places;

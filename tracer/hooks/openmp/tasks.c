@@ -53,6 +53,7 @@ void tasks_run(const struct task *task, const struct task_bounds *bounds, uintpt
         tasks_end_included(code);
     memcpy(guards, kept, held * sizeof *kept);
     guards_held = deferred ? held : guards_held;
+    blocks_leave_quick_sites();
     parts_forget_below(stack_pointer);
 }
 

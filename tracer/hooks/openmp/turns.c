@@ -67,6 +67,7 @@ static void enter_stack(struct stack *stack) {
     hidden_updates = stack->hidden_updates;
     guards_held = kept[stack - stacks].count;
     memcpy(guards, kept[stack - stacks].list, guards_held * sizeof *guards);
+    blocks_leave_quick_sites();
     if (doing.tracing)
         enter_own(stack);
     frames_find_short_way();

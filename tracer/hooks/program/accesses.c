@@ -121,30 +121,12 @@ ACCESSES(4)
 ACCESSES(8)
 ACCESSES(16)
 
-/* In a run that keeps places. */
-static inline void first_with_site(bool writes, const struct block_touched *in, unsigned granule, size_t count,
-                                   uintptr_t code) {
-    const uint64_t site = places_site_word(false, code);
-    recent_begin();
-    strands_list(in);
-    for (const unsigned end = granule + (unsigned)count; granule < end; granule++)
-        if (!blocks_was_done(writes, in->done[granule])) {
-            strands_note_sites(writes, in, (uint64_t)1 << granule, site);
-            blocks_set_bit(&in->done[granule], writes ? BLOCK_WROTE : BLOCK_READ);
-        }
-    *strands_quick_sites_of(writes, in->done) = (struct strand_quick_sites){
-        strands_key_of_sites(writes, in->done), &strands_part.sites[in->block->place - 1][writes]};
-    recent_finish();
-}
-
 /* The first of some granules that aren't noted quickly. */
 static inline void first_granules(bool writes, uintptr_t at, size_t size, uintptr_t code) {
     struct block_touched in = blocks_at(at);
     unsigned granule = blocks_granule_at(at);
     if (__builtin_expect(locations_may_begin_quick(&in), 1))
         locations_begin_quick(writes, &in, granule, size >> GRANULE_USUAL_SHIFT);
-    else if (doing.keeping_places && strands_noted_quickly && in.block->dead == 0 && !locations_is_looked_at(&in))
-        first_with_site(writes, &in, granule, size >> GRANULE_USUAL_SHIFT, code);
     else if (strands_noted_quickly)
         locations_touch_block(writes, at, at + size, code);
     else
@@ -153,35 +135,36 @@ static inline void first_granules(bool writes, uintptr_t at, size_t size, uintpt
                 locations_note_granule(writes, &in, granule, part, code);
 }
 
-/* This is all where the block's sites are found quickly, and the access has the only one, or one that is known. If a
-   signal ends the run before the number stands there, the site isn't known. */
-static inline bool has_quick_site(bool writes, const uint8_t *done, uintptr_t code) {
-    const struct strand_quick_sites *quick = strands_quick_sites_of(writes, done);
-    if (quick->key != strands_key_of_sites(writes, done) || guards_held > 0)
+/* This is all where sites are noted quickly, for the granules of an access of which the first one that isn't noted has
+   this byte: it has the only site, and remembers that, or one of several. If a signal ends the run before the site
+   stands there, it isn't known. */
+static inline bool has_quick_site(bool writes, uintptr_t at, size_t size, uint8_t *done, uintptr_t code,
+                                  uint64_t *remembered) {
+    /* Of this period, whatever a handler of a signal makes of that. */
+    const uint64_t block = blocks_remembered(done);
+    changes_in_order();
+    const uint16_t place = blocks_of_row(blocks_regions[blocks_region_of(at)], at, done)->quick_place;
+    if (place == 0 || guards_held > 0)
         return false;
-    if (quick->sites->only == code)
-        return true;
-    const size_t slot = places_site_slot(code);
-    if (quick->sites->only != STRAND_SEVERAL_SITES || places_site_keys[slot] != code + 1)
+    const size_t number = (size_t)place - 1;
+    const uint64_t only = strands_part.only_sites[number][writes];
+    uint32_t *site = &strands_part.sites[number][writes][(uintptr_t)done % BLOCK_GRANULES];
+    const bool has_two =
+        size >> GRANULE_USUAL_SHIFT == 2 && (uintptr_t)done % 2 == 0 && !blocks_was_done(writes, done[1]);
+    if (only == code)
+        *remembered = block;
+    else if (only == STRAND_SEVERAL_SITES)
+        site[0] = site[has_two] = (uint32_t)code;
+    else
         return false;
-    quick->sites->of[(uintptr_t)done % BLOCK_GRANULES] = places_site_numbers[slot];
-    return true;
-}
-
-/* The same of all granules of an access, of which the first one that isn't noted has this byte. */
-static inline bool have_quick_site(bool writes, size_t size, uint8_t *done, uintptr_t code) {
-    if (!has_quick_site(writes, done, code))
-        return false;
-    if (size >> GRANULE_USUAL_SHIFT == 2 && (uintptr_t)done % 2 == 0 && !blocks_was_done(writes, done[1])) {
+    if (has_two)
         blocks_set_bit(&done[1], writes ? BLOCK_WROTE : BLOCK_READ);
-        has_quick_site(writes, done + 1, code);
-    }
     return true;
 }
 
-/* What the text in inline_checks.s calls for such an access that isn't noted quickly, with the byte of the first
-   granule that isn't; of the stack, where it is no repeat, with the mark; and for the rest. That byte says already that
-   this is done. */
+/* What the text in inline_checks.h calls for such an access that isn't noted quickly, with the byte of the first
+   granule that isn't, which says already that this is done, and what the access remembers; of the stack, where it is no
+   repeat, with the mark; and for the rest. */
 __attribute__((noinline)) static void note_first(bool writes, uintptr_t at, size_t size, uint8_t *done,
                                                  uintptr_t code) {
     blocks_clear_bit(done, writes ? BLOCK_WROTE : BLOCK_READ);
@@ -189,8 +172,8 @@ __attribute__((noinline)) static void note_first(bool writes, uintptr_t at, size
 }
 
 #define BEHIND_TEST(KIND, WRITES, SIZE) \
-    void __spbags_first_##KIND##SIZE(uintptr_t at, uint8_t *done) { \
-        if (!have_quick_site(WRITES, SIZE, done, CODE)) \
+    void __spbags_block_##KIND##SIZE(uintptr_t at, uint8_t *done, uint64_t *remembered) { \
+        if (!has_quick_site(WRITES, at, SIZE, done, CODE, remembered)) \
             note_first(WRITES, at, SIZE, done, CODE); \
     } \
     void __spbags_stack_##KIND##SIZE(uintptr_t at, uint32_t *mark) { note_usual_marks(WRITES, at, SIZE, mark, CODE); } \

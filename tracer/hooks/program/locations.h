@@ -93,7 +93,7 @@ void locations_clear(uintptr_t address, size_t size);
 void locations_note_stack(bool writes, uintptr_t address, uint32_t *mark, unsigned shift, uintptr_t code);
 
 /* Whether there is nothing else to do. */
-static inline bool locations_is_noted_quickly(uintptr_t address, const uint32_t *mark) {
+ALWAYS_INLINE bool locations_is_noted_quickly(uintptr_t address, const uint32_t *mark) {
     return strands_stack_noted_quickly && stacks_is_of_running(address) &&
            !(*mark == MARK_UNTOUCHED && steps_is_window_full());
 }
@@ -114,12 +114,13 @@ ALWAYS_INLINE uint64_t locations_quick(bool writes, uintptr_t address, uint32_t 
 /* Without calls on the way where there is nothing else to do. */
 ALWAYS_INLINE void locations_note_stack_granule(bool writes, uintptr_t address, uint32_t *mark, unsigned shift,
                                                 uintptr_t code) {
-    if (__builtin_expect(!locations_is_noted_quickly(address, mark), 0)) {
+    uint64_t site;
+    if (__builtin_expect(!locations_is_noted_quickly(address, mark) || !records_find_access_bits(code, &site), 0)) {
         locations_note_stack(writes, address, mark, shift, code);
         return;
     }
     changes_begin_step();
-    steps_put(writes ? SPBAGS_WRITE : SPBAGS_READ, locations_quick(writes, address, mark));
+    steps_put_at(writes ? SPBAGS_WRITE : SPBAGS_READ, locations_quick(writes, address, mark), site);
     changes_end_step();
 }
 

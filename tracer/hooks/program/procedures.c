@@ -39,7 +39,7 @@ static void plain_structure(enum spbags_kind kind, uintptr_t code, bool has_pend
 /* With each record of the structure a strand ends and another begins. */
 __attribute__((noinline)) static void structure(enum spbags_kind kind, uintptr_t code) {
     if (doing.plain) {
-        plain_structure(kind, code, look_is_pending, doing.keeping_places ? places_site_number(code) : 0);
+        plain_structure(kind, code, look_is_pending, doing.keeping_places ? places_site_bits(code) : 0);
     } else {
         recent_begin_one();
         records_structure(kind, code);
@@ -58,10 +58,10 @@ ALWAYS_INLINE bool goes_short_way(unsigned records) {
 
 /* One of them, in a step. Behind it the compiler doesn't go on with what it has in registers, which would be too
    many. */
-ALWAYS_INLINE void quick_structure(enum spbags_kind kind, uintptr_t code) {
+ALWAYS_INLINE void quick_structure(enum spbags_kind kind, uintptr_t code, uint64_t site) {
     course_structure(kind, code);
     frames_procedures += frames_procedures_opened_by(kind);
-    steps_put_quickly(kind, 0);
+    steps_put_quickly(kind, 0, site);
     steps_begin_window();
     marks_read += 2;
     changes_in_order();
@@ -115,8 +115,8 @@ void procedures_leave_top(uintptr_t code) {
 }
 
 /* In a step this frame ends the short way, which is the newest one and a procedure, and has no children. */
-ALWAYS_INLINE void quick_return(struct frame *frame, uintptr_t code) {
-    quick_structure(SPBAGS_RETURN, code);
+ALWAYS_INLINE void quick_return(struct frame *frame, uintptr_t code, uint64_t site) {
+    quick_structure(SPBAGS_RETURN, code, site);
     frames_top = frame - 1;
     frames_follow_top();
 }
@@ -188,16 +188,17 @@ __attribute__((noinline)) static __spbags_function spawn(__spbags_function calle
 /* The same the short way, where the newest frame is that of the function itself. */
 __spbags_function __spbags_spawn(__spbags_function callee) {
     struct frame *frame = frames_top;
+    uint64_t site;
     if (!goes_short_way(2) || frames_procedures_most - frames_procedures < 2 || frame + 1 == frames_end ||
-        frame->end <= STACK_POINTER || frame->kind == FRAME_CHILD)
+        frame->end <= STACK_POINTER || frame->kind == FRAME_CHILD || !places_find_site_bits(CODE, &site))
         return spawn(callee, STACK_POINTER, CODE);
     changes_begin_only_step();
     if (is_unopened(frame)) {
-        quick_structure(SPBAGS_CALL, CODE);
+        quick_structure(SPBAGS_CALL, CODE, site);
         frame->called = true;
     }
     hold_children(frame);
-    quick_structure(SPBAGS_SPAWN, CODE);
+    quick_structure(SPBAGS_SPAWN, CODE, site);
     push_child(callee, STACK_POINTER, steps_so_far());
     changes_end_step();
     return callee;
@@ -227,12 +228,13 @@ ALWAYS_INLINE bool returns_short_way(const struct frame *frame, const volatile v
 ALWAYS_INLINE void return_somehow(const volatile void *result, unsigned long size, uintptr_t stack_pointer,
                                   uintptr_t code) {
     struct frame *frame = frames_top;
-    if (!returns_short_way(frame, result, stack_pointer, 1)) {
+    uint64_t site;
+    if (!returns_short_way(frame, result, stack_pointer, 1) || !places_find_site_bits(code, &site)) {
         return_child(result, size, stack_pointer, code);
         return;
     }
     changes_begin_only_step();
-    quick_return(frame, code);
+    quick_return(frame, code, site);
     changes_end_step();
 }
 
@@ -248,21 +250,37 @@ __attribute__((noinline)) static void store_and_return(uintptr_t at, unsigned lo
     return_somehow(result, result_size, stack_pointer, code);
 }
 
-void __spbags_stored(const volatile void *at, unsigned long size, const volatile void *result,
-                     unsigned long result_size) {
+ALWAYS_INLINE void store_somehow(uintptr_t granule, unsigned long size, const volatile void *result,
+                                 unsigned long result_size, uintptr_t stack_pointer, uintptr_t code) {
     struct frame *frame = frames_top;
-    const uintptr_t granule = (uintptr_t)at;
     uint32_t *mark = marks_at_usual(granule);
-    if (!returns_short_way(frame, result, STACK_POINTER, 2) || frames_short_way_bits == 0 ||
-        size != 1 << GRANULE_USUAL_SHIFT || (granule & (size - 1)) != 0 || !locations_is_noted_quickly(granule, mark)) {
-        store_and_return(granule, size, result, result_size, STACK_POINTER, CODE);
+    uint64_t site;
+    if (!returns_short_way(frame, result, stack_pointer, 2) || frames_short_way_bits == 0 ||
+        size != 1 << GRANULE_USUAL_SHIFT || (granule & (size - 1)) != 0 || !locations_is_noted_quickly(granule, mark) ||
+        !records_find_access_bits(code, &site)) {
+        store_and_return(granule, size, result, result_size, stack_pointer, code);
         return;
     }
     changes_begin_only_step();
     if (!marks_is_repeat(true, *mark))
-        steps_put_quickly(SPBAGS_WRITE, locations_quick(true, granule, mark));
-    quick_return(frame, CODE);
+        steps_put_quickly(SPBAGS_WRITE, locations_quick(true, granule, mark), site);
+    quick_return(frame, code, site);
     changes_end_step();
+}
+
+/* Apart, so that other runs have fewer registers to keep. */
+__attribute__((noinline)) static void store_with_site(uintptr_t granule, unsigned long size,
+                                                      const volatile void *result, unsigned long result_size,
+                                                      uintptr_t stack_pointer, uintptr_t code) {
+    store_somehow(granule, size, result, result_size, stack_pointer, code);
+}
+
+void __spbags_stored(const volatile void *at, unsigned long size, const volatile void *result,
+                     unsigned long result_size) {
+    if (__builtin_expect(doing.keeping_places, 0))
+        store_with_site((uintptr_t)at, size, result, result_size, STACK_POINTER, CODE);
+    else
+        store_somehow((uintptr_t)at, size, result, result_size, STACK_POINTER, CODE);
 }
 
 __attribute__((noinline)) static void sync_function(uintptr_t stack_pointer, uintptr_t code) {
@@ -276,13 +294,14 @@ __attribute__((noinline)) static void sync_function(uintptr_t stack_pointer, uin
 
 void __spbags_sync(void) {
     struct frame *frame = frames_top;
+    uint64_t site;
     if (!goes_short_way(1) || frame->children != frames_procedures || frame->kind == FRAME_CHILD ||
-        frame->end <= STACK_POINTER || frame <= frames_grouped) {
+        frame->end <= STACK_POINTER || frame <= frames_grouped || !places_find_site_bits(CODE, &site)) {
         sync_function(STACK_POINTER, CODE);
         return;
     }
     changes_begin_only_step();
-    quick_structure(SPBAGS_SYNC, CODE);
+    quick_structure(SPBAGS_SYNC, CODE, site);
     frames_procedures_owners[frames_procedures] = NULL;
     frame->children = FRAME_NONE;
     changes_end_step();
@@ -312,14 +331,16 @@ void __tsan_func_exit(void) {
     if (!doing.tracing)
         return;
     uintptr_t end = FRAME_END;
+    uint64_t site = 0;
     if (end != frames_top->end || !is_alone(frames_top) ||
-        (frames_top->called && (!goes_short_way(1) || frames_top <= frames_grouped))) {
+        (frames_top->called &&
+         (!goes_short_way(1) || frames_top <= frames_grouped || !places_find_site_bits(CODE, &site)))) {
         leave_function(end, CODE);
         return;
     }
     if (frames_top->called) {
         changes_begin_only_step();
-        quick_return(frames_top, CODE);
+        quick_return(frames_top, CODE, site);
         changes_end_step();
         clear_below(end);
     } else {

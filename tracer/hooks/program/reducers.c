@@ -43,28 +43,16 @@ static struct view *known_view(uintptr_t first, size_t size, const char *note) {
 
 static bool records_views(void) { return doing.tracing && frames_initialising == hidden_updates; }
 
-/* Some begin, one behind another. */
-static void begin_views(uintptr_t first, size_t size, size_t count, const char *note, uintptr_t stack_pointer,
-                        uintptr_t code) {
+void __spbags_reducer(const volatile void *at, unsigned long size, const char *note) {
     if (!doing.tracing || size == 0)
         return;
-    procedures_leave_jumped(stack_pointer, code);
-    for (size_t at = 0; at < count; at++) {
-        struct view *view = add_view(first + at * size, size, note);
-        if (records_views())
-            write_view(view, code);
-    }
+    procedures_leave_jumped(STACK_POINTER, CODE);
+    struct view *view = add_view((uintptr_t)at, size, note);
+    if (records_views())
+        write_view(view, CODE);
 }
 
-void __spbags_reducer(const volatile void *at, unsigned long size, const char *note) {
-    begin_views((uintptr_t)at, size, 1, note, STACK_POINTER, CODE);
-}
-
-void __spbags_reducers(const volatile void *at, unsigned long size, unsigned long each, const char *note) {
-    begin_views((uintptr_t)at, each, each > 0 ? size / each : 0, note, STACK_POINTER, CODE);
-}
-
-/* One that never began, as a global one, begins now. */
+/* One that never began, as a global one or an element, begins now. */
 static void *update(uintptr_t at, size_t size, const char *note, uintptr_t stack_pointer, uintptr_t code) {
     enum { FIRST_BYTES = 8 };
     if (records_views() && size > 0) {

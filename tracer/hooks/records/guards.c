@@ -26,6 +26,7 @@ void guards_enter_first(uintptr_t id, const char *name) {
         return;
     memmove(guards + 1, guards, guards_held++ * sizeof *guards);
     guards[0] = (struct guard){granules_name(id), name};
+    blocks_leave_quick_sites();
 }
 
 static uint32_t add_list(void) {

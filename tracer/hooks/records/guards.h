@@ -68,6 +68,7 @@ static inline void guards_enter(uintptr_t id, const char *name) {
         guards_note_entry(id);
     if (guards_held < GUARD_MOST)
         guards[guards_held++] = (struct guard){id, name};
+    blocks_leave_quick_sites();
 }
 
 /* Before all others, so that it is the one that is told where two accesses hold several. */

@@ -31,7 +31,9 @@ uint16_t places_find_site(uint64_t word) {
 
 /* ---- Numbers ---- */
 
-struct places_newest places_newest = {.site = PLACES_REPEAT};
+/* No record has it. */
+enum { NONE_NEWEST = PLACES_REPEAT };
+struct places_newest places_newest = {.site = NONE_NEWEST};
 
 /* Those that wait, and what has gone out. At the limit, or where it can't be written, a descriptor's are given up. */
 static struct {
@@ -97,44 +99,84 @@ static void write_block(void) {
     errno = error;
 }
 
-/* For numbers that stand together. */
-enum { ROOM = 8 };
-static void make_room(void) {
-    if (out.used + ROOM > PACKING_MOST)
+/* For so many numbers. A block begins with a site, or with two that take turns. */
+static inline void make_room(size_t count) {
+    if (out.used + count > PACKING_MOST)
         write_block();
 }
 
-/* A block begins with a site. */
-static void put_newest(void) {
-    enum { MOST_TOGETHER = UINT16_MAX + 1 };
-    while (places_newest.more > 0 && out.file >= 0) {
-        make_room();
-        const uint64_t count = places_newest.more < MOST_TOGETHER ? places_newest.more : MOST_TOGETHER;
-        numbers_waiting[out.used++] = places_newest.site;
-        if (count > 1) {
-            numbers_waiting[out.used++] = PLACES_REPEAT;
-            numbers_waiting[out.used++] = (uint16_t)(count - 1);
+static inline void put_number(uint16_t site) {
+    numbers_waiting[out.used++] = places_newest.site = site;
+    places_newest.records++;
+}
+
+static void put_repeats(void) {
+    enum { MARK_AND_COUNT = 2 };
+    while (places_newest.more > 0) {
+        make_room(MARK_AND_COUNT);
+        if (out.used == 0) {
+            put_number(places_newest.site);
+            places_newest.more--;
+            continue;
         }
+        const uint16_t count = places_newest.more < UINT16_MAX ? (uint16_t)places_newest.more : UINT16_MAX;
+        numbers_waiting[out.used++] = PLACES_REPEAT;
+        numbers_waiting[out.used++] = count;
         places_newest.records += count;
         places_newest.more -= count;
     }
 }
 
 void places_put_other(uint16_t site) {
-    put_newest();
-    places_newest.site = site;
+    put_repeats();
+    make_room(1);
+    put_number(site);
 }
 
 void places_put_turns(uint64_t turns, uint64_t bits) {
+    enum { TOGETHER = 8 };
     const uint16_t count = turns >> 32 & 0xff;
-    put_newest();
-    make_room();
-    const uint16_t numbers[ROOM] = {
+    put_repeats();
+    make_room(TOGETHER);
+    const uint16_t numbers[TOGETHER] = {
         PLACES_TWO,     (uint16_t)turns,        (uint16_t)(turns >> 16), count,
         (uint16_t)bits, (uint16_t)(bits >> 16), (uint16_t)(bits >> 32),  (uint16_t)(bits >> 48)};
-    memcpy(numbers_waiting + out.used, numbers, sizeof numbers);
-    out.used += ROOM;
+    __builtin_memcpy(numbers_waiting + out.used, numbers, sizeof numbers);
+    out.used += TOGETHER;
     places_newest.records += count;
+    places_newest.site = NONE_NEWEST;
+}
+
+/* Of so few that there is room for the numbers of all. */
+static void take_few(uint64_t *records, const uint64_t *end) {
+    uint16_t *to = numbers_waiting + out.used, newest = out.used > 0 ? places_newest.site : NONE_NEWEST, more = 0;
+    const size_t count = (size_t)(end - records);
+    for (; records < end; records++) {
+        const uint16_t site = (uint16_t)(*records >> STEPS_SITE_SHIFT);
+        *records &= steps_without_site;
+        if (site == newest) {
+            more++;
+            continue;
+        }
+        if (more > 0) {
+            *to++ = PLACES_REPEAT;
+            *to++ = more;
+            more = 0;
+        }
+        *to++ = newest = site;
+    }
+    out.used = (size_t)(to - numbers_waiting);
+    places_newest = (struct places_newest){newest, more, places_newest.records + count - more};
+}
+
+void places_take(uint64_t *records, size_t count) {
+    enum { FEW = 1024, MOST_OF_EACH = 3 };
+    for (size_t few; count > 0; records += few, count -= few) {
+        few = count < FEW ? count : FEW;
+        put_repeats();
+        make_room(MOST_OF_EACH * few);
+        take_few(records, records + few);
+    }
 }
 
 /* ---- The end of the file ---- */
@@ -173,7 +215,7 @@ static void close_file(void) {
 void places_end(void) {
     if (out.file < 0)
         return;
-    put_newest();
+    put_repeats();
     write_block();
     if (out.file >= 0 && !put_end())
         refuse();

@@ -17,23 +17,32 @@ static inline uint64_t records_site(uintptr_t granule, uintptr_t code) {
     return places_site_word(granules_bytes_left_out(granule) != 0, code);
 }
 
+/* Of an access at hand, which fills its granule and holds nothing. */
+ALWAYS_INLINE bool records_find_access_bits(uintptr_t code, uint64_t *bits) {
+    return places_find_site_bits(code, bits) &&
+           !(doing.keeping_places && (guards_held > 0 || granules_partial.end != 0));
+}
+
 static inline void records_step(bool writes, uint64_t location, uintptr_t address, uintptr_t code) {
     recent_begin();
     if (__builtin_expect(doing.looking, 0))
         look_note_pending(writes, location, address, code);
     course_stack(writes, location);
     steps_put_at(writes ? SPBAGS_WRITE : SPBAGS_READ, location,
-                 __builtin_expect(doing.keeping_places, 0) ? places_site_number(records_site(address, code)) : 0);
+                 __builtin_expect(doing.keeping_places, 0) ? places_site_bits(records_site(address, code)) : 0);
     recent_finish();
 }
 
-/* These granules of a block have been accessed, in a plain run. None of them is accessed in part if places are kept. */
+/* These granules of a block have been accessed, in a plain run. None of them is accessed in part if places are kept;
+   then sites are noted there quickly from now on. */
 static inline void records_note_in_block(bool writes, const struct block_touched *in, uint64_t granules,
                                          uintptr_t code) {
     recent_begin();
     strands_list(in);
-    if (__builtin_expect(doing.keeping_places, 0))
+    if (__builtin_expect(doing.keeping_places, 0)) {
         strands_note_sites(writes, in, granules, places_site_word(false, code));
+        in->block->quick_place = in->block->dead == 0 ? in->block->place : 0;
+    }
     blocks_set(in->done, granules, writes ? BLOCK_WROTE : BLOCK_READ);
     recent_finish();
 }

@@ -99,13 +99,13 @@ void steps_put_rest(void);
 enum { STEPS_SITE_SHIFT = 48 };
 static const uint64_t steps_without_site = ((uint64_t)1 << STEPS_SITE_SHIFT) - 1;
 
-/* Before the pause. */
-static inline void steps_put_quickly(unsigned kind, uint64_t location) {
-    *steps_next++ = spbags_record(kind, location);
+/* Before the pause; with the bits of the site. */
+static inline void steps_put_quickly(unsigned kind, uint64_t location, uint64_t site) {
+    *steps_next++ = spbags_record(kind, location) | site;
 }
 
 static inline void steps_put_at(unsigned kind, uint64_t location, uint64_t site) {
-    *steps_next++ = spbags_record(kind, location) | site << STEPS_SITE_SHIFT;
+    steps_put_quickly(kind, location, site);
     if (__builtin_expect(steps_next >= steps_pause, 0))
         steps_look_on();
 }

@@ -9,13 +9,12 @@
 #include "shadow/own.h"
 
 struct strand_part strands_part;
-struct strand_quick_sites strands_quick_sites[STRAND_QUICK_SITES];
 bool strands_noted_quickly, strands_stack_noted_quickly;
 
 static bool is_left(struct block_touched touched) {
     if (!touched.block)
         return false;
-    touched.block->place = 0;
+    touched.block->place = touched.block->quick_place = 0;
     return (blocks_granules_with(touched.done, BLOCK_READ) | blocks_granules_with(touched.done, BLOCK_WROTE)) != 0 ||
            touched.block->is_byte_granular;
 }
@@ -28,12 +27,14 @@ static void drop_empty(void) {
     for (size_t at = 0; at < used; at++) {
         if (!is_left(strands_part.list[at])) {
             memset(strands_part.list[at].done, 0, strands_part.list[at].block ? BLOCK_GRANULES : 0);
-            strands_part.sites[at][false].only = strands_part.sites[at][true].only = STRAND_NO_SITES;
+            strands_forget_sites(at);
             continue;
         }
         if (strands_part.used < at && doing.keeping_places) {
+            memcpy(strands_part.only_sites[strands_part.used], strands_part.only_sites[at],
+                   sizeof *strands_part.only_sites);
             memcpy(strands_part.sites[strands_part.used], strands_part.sites[at], sizeof *strands_part.sites);
-            strands_part.sites[at][false].only = strands_part.sites[at][true].only = STRAND_NO_SITES;
+            strands_forget_sites(at);
         }
         strands_place(&strands_part.list[at]);
     }
@@ -41,7 +42,7 @@ static void drop_empty(void) {
 
 void strands_make_room(void) {
     frames_leave_short_way();
-    strands_leave_quick_sites();
+    blocks_leave_quick_sites();
     if (strands_part.has_gaps)
         drop_empty();
     frames_find_short_way();
@@ -49,32 +50,40 @@ void strands_make_room(void) {
         strands_put();
 }
 
-void strands_note_others(bool writes, const struct block_touched *in, uint64_t granules, uint64_t word) {
-    struct strand_sites *sites = &strands_part.sites[in->block->place - 1][writes];
-    const uint16_t number = places_site_number(word);
-    if (sites->only == STRAND_NO_SITES) {
-        sites->number = number;
-        sites->only = word;
-        return;
-    }
-    if (sites->only != STRAND_SEVERAL_SITES) {
-        uint64_t before = blocks_granules_with(in->done, writes ? BLOCK_WROTE : BLOCK_READ);
-        for (unsigned granule = 0; granule < BLOCK_GRANULES; granule++)
-            sites->of[granule] = (before >> granule & 1) != 0 ? sites->number : PLACES_NO_SITE;
-        sites->only = STRAND_SEVERAL_SITES;
-    }
+static void set_sites(uint32_t *sites, uint64_t granules, uint64_t word) {
+    const uint32_t site = places_short_site(word);
     for (; granules != 0; granules &= granules - 1)
-        sites->of[__builtin_ctzll(granules)] = number;
+        sites[__builtin_ctzll(granules)] = site;
+}
+
+/* Where the only one was another, each granule has its own from now on. */
+void strands_note_sites(bool writes, const struct block_touched *in, uint64_t granules, uint64_t word) {
+    const size_t number = in->block->place - 1u;
+    uint64_t *only = &strands_part.only_sites[number][writes];
+    uint32_t *sites = strands_part.sites[number][writes];
+    if (*only == STRAND_NO_SITES)
+        *only = word;
+    if (*only == word)
+        return;
+    if (*only != STRAND_SEVERAL_SITES) {
+        blocks_leave_quick_sites();
+        memset(sites, 0, BLOCK_GRANULES * sizeof *sites);
+        set_sites(sites, blocks_granules_with(in->done, writes ? BLOCK_WROTE : BLOCK_READ), *only);
+        *only = STRAND_SEVERAL_SITES;
+    }
+    set_sites(sites, granules, word);
 }
 
 void strands_follow_views(bool are_there) {
     strands_noted_quickly = doing.plain && !are_there;
-    strands_stack_noted_quickly = strands_noted_quickly && !doing.looking && !doing.keeping_places;
+    strands_stack_noted_quickly = strands_noted_quickly && !doing.looking;
     frames_leave_short_way();
-    strands_leave_quick_sites();
+    blocks_leave_quick_sites();
     for (size_t at = 0; at < strands_part.used && !strands_noted_quickly; at++)
-        if (strands_part.list[at].block)
+        if (strands_part.list[at].block) {
             blocks_clear(strands_part.list[at].done, UINT64_MAX, BLOCK_QUICK);
+            strands_part.list[at].block->quick_place = 0;
+        }
     frames_find_short_way();
 }
 
@@ -86,13 +95,14 @@ static void follow(const struct block_touched *touched, uint64_t granules) {
 
 void strands_set_dead(uintptr_t address, uintptr_t end) {
     strands_part.has_gaps = true;
-    strands_leave_quick_sites();
+    blocks_leave_quick_sites();
     while (address < end) {
         struct block_part part = blocks_part_from(address, end);
         if (doing.plain)
             follow(&part.in, part.granules);
         memset(part.in.done + blocks_granule_at(address), 0, (part.end - address + granules_mask) >> granules_shift);
         part.in.block->dead |= part.granules;
+        part.in.block->quick_place = 0;
         address = part.end;
     }
 }
@@ -107,23 +117,29 @@ static struct {
     uint64_t granules[2];
 } going_out;
 
-static struct strand_sites *sites_going_out(bool writes) {
-    return &strands_part.sites[going_out.block - strands_part.list][writes];
+static void forget_sites_of(const struct block_touched *touched) {
+    strands_forget_sites((size_t)(touched - strands_part.list));
 }
 
-static void forget_sites(const struct block_touched *touched) {
-    struct strand_sites *sites = strands_part.sites[touched - strands_part.list];
-    if (doing.keeping_places)
-        sites[false].only = sites[true].only = STRAND_NO_SITES;
+/* The only site of the block that goes out, or whether it has several, which are its granules'. */
+static uint64_t only_site(bool writes) { return strands_part.only_sites[going_out.block - strands_part.list][writes]; }
+
+static const uint32_t *sites_of_granules(bool writes) {
+    return strands_part.sites[going_out.block - strands_part.list][writes];
 }
 
-static inline uint16_t site_of_granule(const struct strand_sites *sites, unsigned granule) {
-    return sites->only == STRAND_SEVERAL_SITES ? sites->of[granule] : sites->number;
+static uint16_t number_of_only(uint64_t only) {
+    return only == STRAND_NO_SITES ? PLACES_NO_SITE : places_site_number(only);
+}
+
+static uint16_t number_of_granule(bool writes, unsigned granule) {
+    const uint64_t only = only_site(writes);
+    return only == STRAND_SEVERAL_SITES ? places_number_of_short(sites_of_granules(writes)[granule])
+                                        : number_of_only(only);
 }
 
 static void put_accesses(bool writes) {
     const struct block_touched *touched = going_out.block;
-    const struct strand_sites *sites = sites_going_out(writes);
     for (uint64_t granules = going_out.granules[writes]; granules != 0;
          going_out.granules[writes] = granules &= granules - 1) {
         unsigned granule = (unsigned)__builtin_ctzll(granules);
@@ -131,7 +147,8 @@ static void put_accesses(bool writes) {
         if (doing.plain && !doing.looking && !doing.keeping_places)
             lines_write_access(writes, location);
         else
-            lines_put_access(writes, location, site_of_granule(sites, granule));
+            lines_put_access(writes, location,
+                             doing.keeping_places ? number_of_granule(writes, granule) : PLACES_NO_SITE);
     }
 }
 
@@ -144,46 +161,72 @@ static void step_words(unsigned kind, uint64_t location, const uint64_t *words, 
         changes_end_step();
 }
 
-/* Whether two sites take turns among these granules: then they are put. */
-static bool put_turns(uint64_t *at, const struct strand_sites *sites, uint64_t granules) {
-    enum { FEW_TURNS = 6 };
-    const uint16_t first = sites->of[__builtin_ctzll(granules)];
-    uint16_t other = first;
-    uint64_t bits = 0, count = 0;
-    bool is_third = false;
-    for (; granules != 0; granules &= granules - 1) {
-        const uint16_t site = sites->of[__builtin_ctzll(granules)];
-        other = other == first ? site : other;
-        is_third |= site != first && site != other;
-        bits |= (uint64_t)(site != first) << count++;
-    }
-    at[0] = PLACES_TURNS | count << 32 | (uint64_t)other << 16 | first;
-    at[1] = bits;
-    return !is_third && course_count(bits ^ bits << 1) > FEW_TURNS;
+static inline __m128i four_of_site(const uint32_t *sites, __m128i site) {
+    return _mm_cmpeq_epi32(_mm_load_si128((const void *)sites), site);
 }
 
-/* For the detector's thread: how many records one after another have one site, or two that take turns. */
-static uint64_t *put_sites(uint64_t *at, bool writes) {
-    const struct strand_sites *sites = sites_going_out(writes);
-    uint64_t granules = going_out.granules[writes];
-    if (granules != 0 && sites->only != STRAND_SEVERAL_SITES) {
-        *at++ = (uint64_t)course_count(granules) << 16 | sites->number;
-        return at;
+/* The block's granules that have this site. */
+static uint64_t granules_of_site(const uint32_t *sites, uint32_t site) {
+    const __m128i wanted = _mm_set1_epi32((int)site);
+    uint64_t granules = 0;
+    for (unsigned part = 0; part < BLOCK_GRANULES; part += 16) {
+        const uint32_t *of = sites + part;
+        const __m128i first = _mm_packs_epi32(four_of_site(of, wanted), four_of_site(of + 4, wanted)),
+                      last = _mm_packs_epi32(four_of_site(of + 8, wanted), four_of_site(of + 12, wanted));
+        granules |= (uint64_t)(unsigned)_mm_movemask_epi8(_mm_packs_epi16(first, last)) << part;
     }
-    if (granules != 0 && put_turns(at, sites, granules))
-        return at + 2;
-    for (uint64_t last = PLACES_NO_SITE + 1; granules != 0; granules &= granules - 1) {
-        uint64_t site = sites->of[__builtin_ctzll(granules)];
+    return granules;
+}
+
+/* A bit for each of these granules, one behind the other: whether it is one of those. */
+static uint64_t bits_among(uint64_t granules, uint64_t those) {
+    uint64_t bits = 0;
+    if (granules == UINT64_MAX)
+        return those;
+    for (unsigned count = 0; granules != 0; granules &= granules - 1, count++)
+        bits |= (those >> __builtin_ctzll(granules) & 1) << count;
+    return bits;
+}
+
+static uint64_t *put_runs(uint64_t *at, const uint32_t *sites, uint64_t granules) {
+    for (uint64_t last = UINT64_MAX; granules != 0; granules &= granules - 1) {
+        const uint32_t site = sites[__builtin_ctzll(granules)];
         if (site != last)
-            *at++ = site;
+            *at++ = places_number_of_short(site);
         last = site;
         at[-1] += 1 << 16;
     }
     return at;
 }
 
+/* For the detector's thread: how many records one after another have one site, or two that take turns. */
+static uint64_t *put_sites(uint64_t *at, bool writes) {
+    enum { FEW_TURNS = 6 };
+    const uint64_t granules = going_out.granules[writes];
+    if (granules == 0)
+        return at;
+    const uint64_t only = only_site(writes), count = course_count(granules);
+    if (only != STRAND_SEVERAL_SITES) {
+        *at++ = count << 16 | number_of_only(only);
+        return at;
+    }
+    const uint32_t *sites = sites_of_granules(writes), first = sites[__builtin_ctzll(granules)];
+    const uint64_t others = granules & ~granules_of_site(sites, first);
+    if (others == 0)
+        return put_runs(at, sites, granules);
+    const uint32_t other = sites[__builtin_ctzll(others)];
+    const uint64_t bits = bits_among(granules, others);
+    if ((others & ~granules_of_site(sites, other)) != 0 || course_count(bits ^ bits << 1) <= FEW_TURNS)
+        return put_runs(at, sites, granules);
+    *at++ = PLACES_TURNS | count << 32 | (uint64_t)places_number_of_short(other) << 16 | places_number_of_short(first);
+    *at++ = bits;
+    return at;
+}
+
 static void step_block(void) {
-    uint64_t words[3 + 2 * BLOCK_GRANULES] = {going_out.granules[false], going_out.granules[true]}, *end = words + 2;
+    uint64_t words[3 + 2 * BLOCK_GRANULES], *end = words + 2;
+    words[0] = going_out.granules[false];
+    words[1] = going_out.granules[true];
     if (doing.plain && doing.keeping_places) {
         end = put_sites(put_sites(end + 1, false), true);
         words[2] = (uint64_t)(end - words) - 3;
@@ -208,7 +251,7 @@ static void put_rest_of_block(void) {
         put_accesses(false);
         put_accesses(true);
     }
-    forget_sites(going_out.block);
+    forget_sites_of(going_out.block);
     going_out.block = NULL;
 }
 
@@ -216,7 +259,7 @@ static void put_rest_of_block(void) {
 static inline void take(const struct block_touched *touched, uint64_t masks[2]) {
     struct block *block = touched->block;
     const uint64_t own_mask = block->has_own ? own_granules(touched->location / 2 << granules_shift) : 0;
-    block->place = 0;
+    block->place = block->quick_place = 0;
     masks[false] = blocks_granules_with(touched->done, BLOCK_READ);
     masks[true] = blocks_granules_with(touched->done, BLOCK_WROTE) & ~own_mask;
     __builtin_memset(touched->done, 0, BLOCK_GRANULES);
@@ -232,7 +275,7 @@ static void put_block(const struct block_touched *touched) {
     if (doing.plain)
         course_granules(touched->location, going_out.granules[false], going_out.granules[true]);
     if ((going_out.granules[false] | going_out.granules[true]) == 0) {
-        forget_sites(touched);
+        forget_sites_of(touched);
         return;
     }
     going_out.waits_for_detector = doing_detects();
@@ -243,7 +286,7 @@ static void put_block(const struct block_touched *touched) {
 static void put_blocks(void) {
     static size_t at;
     frames_leave_short_way();
-    strands_leave_quick_sites();
+    blocks_leave_quick_sites();
     if (going_out.block)
         put_rest_of_block();
     for (; at < strands_part.used; at++) {
@@ -316,7 +359,7 @@ void strands_end_lifetime(struct strand_lifetime_end end) {
     recent_end();
     steps_put_rest();
     frames_leave_short_way();
-    strands_leave_quick_sites();
+    blocks_leave_quick_sites();
     end_span_blocks(end.span);
     end_dead_blocks(end);
     frames_find_short_way();

@@ -20,14 +20,9 @@ static inline bool strands_gather(uint64_t location) { return location % 2 == 0 
 /* So many blocks before one goes out, it is looked for. */
 enum { STRAND_AHEAD = 8 };
 
-/* The sites of a block's reads, or of its writes: none, the word and the number of the only one, or of each granule the
-   number. */
+/* The site of a block's reads, or of its writes: none, the word of the only one, or that there are several. Then each
+   granule has a short one, by places.h. */
 enum { STRAND_NO_SITES = 0, STRAND_SEVERAL_SITES = 1 };
-struct strand_sites {
-    uint64_t only;
-    uint16_t number;
-    uint16_t of[BLOCK_GRANULES];
-};
 
 /* The part at hand: its blocks, without one where that has gone out alone, and the sites of their accesses where these
    are kept. */
@@ -36,12 +31,14 @@ extern struct strand_part {
     /* Whether something was left out. */
     bool has_gaps;
     struct block_touched list[STRAND_MOST_BLOCKS + STRAND_AHEAD];
-    struct strand_sites sites[STRAND_MOST_BLOCKS][2];
+    uint64_t only_sites[STRAND_MOST_BLOCKS][2];
+    _Alignas(16) uint32_t sites[STRAND_MOST_BLOCKS][2][BLOCK_GRANULES];
 } strands_part;
 
 static inline void strands_place(const struct block_touched *touched) {
+    _Static_assert(STRAND_MOST_BLOCKS <= UINT16_MAX, "a place has no room for its number");
     strands_part.list[strands_part.used] = *touched;
-    touched->block->place = (uint32_t)++strands_part.used;
+    touched->block->place = (uint16_t)++strands_part.used;
 }
 
 /* Makes room for another block; or what the strand has done so far goes out. */
@@ -56,39 +53,16 @@ static inline void strands_list(const struct block_touched *touched) {
     strands_place(touched);
 }
 
-/* Those of some blocks, by the bytes of the blocks and the kind of the accesses, while nothing else is to be done at an
-   access of theirs. */
-enum { STRAND_QUICK_SITES = 16 };
-extern struct strand_quick_sites {
-    uintptr_t key;
-    struct strand_sites *sites;
-} strands_quick_sites[STRAND_QUICK_SITES];
-
-static inline uintptr_t strands_key_of_sites(bool writes, const uint8_t *done) {
-    return ((uintptr_t)done & ~(uintptr_t)(BLOCK_GRANULES - 1)) | writes;
-}
-
-static inline struct strand_quick_sites *strands_quick_sites_of(bool writes, const uint8_t *done) {
-    return &strands_quick_sites[((uintptr_t)done / BLOCK_GRANULES * 2 + writes) % STRAND_QUICK_SITES];
-}
-
-static inline void strands_leave_quick_sites(void) {
-    if (doing.keeping_places)
-        memset(strands_quick_sites, 0, sizeof strands_quick_sites);
-}
-
-/* Where that isn't the only one. */
-void strands_note_others(bool writes, const struct block_touched *in, uint64_t granules, uint64_t word);
-
 /* The site of these granules, which are new in a block that has its place. */
-static inline void strands_note_sites(bool writes, const struct block_touched *in, uint64_t granules, uint64_t word) {
-    if (strands_part.sites[in->block->place - 1][writes].only != word)
-        strands_note_others(writes, in, granules, word);
+void strands_note_sites(bool writes, const struct block_touched *in, uint64_t granules, uint64_t word);
+/* Those of the block with this number in the list have gone out, if there were any. */
+static inline void strands_forget_sites(size_t number) {
+    if (doing.keeping_places)
+        strands_part.only_sites[number][false] = strands_part.only_sites[number][true] = STRAND_NO_SITES;
 }
 
 /* Without views of reducers, if the run is plain, a granule is noted quickly. A run that looks needs the location of
-   each granule of the stack, and those of blocks that have a race; and one that keeps places the code of each
-   access. */
+   each granule of the stack, and those of blocks that have a race. */
 extern bool strands_noted_quickly, strands_stack_noted_quickly;
 /* After a change of whether there are views. */
 void strands_follow_views(bool are_there);

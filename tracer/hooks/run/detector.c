@@ -155,21 +155,13 @@ static uint64_t *take_ended(uint64_t *record) {
     return record + 2;
 }
 
-/* The sites of these records, which are without them then. */
-static void take_sites_of(uint64_t *records, size_t count) {
-    for (uint64_t *record = records; record < records + count; record++) {
-        places_put((uint16_t)(*record >> STEPS_SITE_SHIFT), 1);
-        *record &= steps_without_site;
-    }
-}
-
 /* The records of the run up to one that is none; the next record. */
 static uint64_t *take_records(uint64_t *first, const uint64_t *last) {
     const struct plain_records records = find_plain(first, last);
     at_hand.spawns += records.spawns;
     at_hand.accesses += records.accesses;
     if (doing.plain && doing.keeping_places)
-        take_sites_of(first, records.all);
+        places_take(first, records.all);
     uint8_t status = spbags_steps(at_hand.session, first, records.all);
     if (status != SPBAGS_TAKEN)
         refuse_step(status);

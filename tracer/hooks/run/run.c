@@ -168,7 +168,7 @@ __attribute__((constructor(101))) static void start(void) {
     if (name && !doing.looking)
         put_header();
     doing.plain = !byte_granular_any && !doing.writing_repeats && course_last_record == UINT64_MAX;
-    doing.plainest = doing.plain && !doing.looking && !doing.keeping_places && doing.version == 2;
+    doing.plainest = doing.plain && !doing.looking && doing.version == 2;
     views_follow();
     doing.tracing = true;
     frames_find_short_way();

@@ -4,6 +4,15 @@
 #include "base/tell.h"
 
 intptr_t blocks_regions[BLOCK_REGIONS];
+uint64_t blocks_period;
+/* What the accesses remember. A program may have none that do. */
+extern char __start_spbags_sites[] __attribute__((weak)), __stop_spbags_sites[] __attribute__((weak));
+
+void blocks_begin_periods_again(void) {
+    if (__start_spbags_sites)
+        memset(__start_spbags_sites, 0, (size_t)(__stop_spbags_sites - __start_spbags_sites));
+}
+
 /* The regions of the stack, whose other memory has bytes too. */
 static size_t stack_region, stack_regions_count;
 static intptr_t *rows_beside_stack;

@@ -6,6 +6,7 @@
 #ifndef SPBAGS_SHADOW_BLOCKS_H
 #define SPBAGS_SHADOW_BLOCKS_H
 
+#include "base/doing.h"
 #include "shadow/granules.h"
 
 enum { BLOCK_BITS = 6, BLOCK_GRANULES = 1 << BLOCK_BITS };
@@ -14,8 +15,9 @@ enum { BLOCK_READ = 1, BLOCK_WROTE = 2, BLOCK_QUICK = 0x80 };
 struct block {
     /* The granules of heap blocks that died in the strands of their births. */
     uint64_t dead;
-    /* From 1 on the place in the list of the strand; or 0. */
-    uint32_t place;
+    /* From 1 on the place in the list of the strand; and the same while sites are noted there quickly, in a run that
+       keeps places. Or 0. */
+    uint16_t place, quick_place;
     /* Whether granules are a thread's own, which never go out; whether the block has gone out in the lifetime that its
        memory has; and whether accesses of it were byte-granular, and it has its place for these. */
     bool has_own, has_gone_out, is_byte_granular;
@@ -52,6 +54,28 @@ static inline size_t blocks_region_bytes(void) {
 static inline intptr_t blocks_row_of(uintptr_t address) {
     intptr_t row = blocks_regions[blocks_region_of(address)];
     return __builtin_expect(row > 0, 1) ? row : blocks_other_row(blocks_region_of(address));
+}
+
+/* In a run that keeps places an access of the program's text remembers the block that it alone reads, or writes, as far
+   as sites are noted quickly there: by the address of the block's bytes, and the period in the first bits. When that
+   may be so no more, another period begins. */
+#ifndef PERIOD_SHIFT
+#define PERIOD_SHIFT 47
+#endif
+extern uint64_t blocks_period __asm__("__spbags_period");
+/* All periods have been. */
+__attribute__((cold)) void blocks_begin_periods_again(void);
+
+static inline void blocks_leave_quick_sites(void) {
+    if (!doing.keeping_places)
+        return;
+    blocks_period += (uint64_t)1 << PERIOD_SHIFT;
+    if (__builtin_expect(blocks_period == 0, 0))
+        blocks_begin_periods_again();
+}
+
+static inline uint64_t blocks_remembered(const uint8_t *done) {
+    return ((uintptr_t)done & ~(uintptr_t)(BLOCK_GRANULES - 1)) | blocks_period;
 }
 
 /* A block with its bytes, and the location of its first granule. */

@@ -5,12 +5,12 @@
 #include "shadow/granules.h"
 #include "shadow/stacks.h"
 
-/* By these numbers the text in inline_checks.s knows a frame. */
+/* By these numbers the text in inline_checks.h knows a frame. */
 _Static_assert(offsetof(struct frame, end) == 0 && offsetof(struct frame, kind) == 8 &&
                    offsetof(struct frame, called) == 12 && offsetof(struct frame, children) == 16 &&
                    offsetof(struct frame, node) == 20 && offsetof(struct frame, position) == 24 &&
                    sizeof(struct frame) == 56 && FRAME_FUNCTION == 0 && FRAME_CHILD == 2 && FRAME_NONE == 0,
-               "inline_checks.s takes a frame for another one");
+               "inline_checks.h takes a frame for another one");
 
 struct frame *frames_all, *frames_end, *frames_top, *frames_silent, *frames_grouped, **frames_procedures_owners;
 uint32_t frames_procedures, frames_procedures_most;

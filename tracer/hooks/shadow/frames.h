@@ -71,7 +71,7 @@ static inline bool frames_is_of_function(const struct frame *frame) {
 extern uintptr_t frames_short_way_end __asm__("__spbags_short_way_end");
 /* All bits, or none if no access goes the short way. */
 extern uintptr_t frames_short_way_bits;
-/* A function's entry and its end go the short way, in inline_checks.s, where its stack memory ends here or above: none
+/* A function's entry and its end go the short way, in inline_checks.h, where its stack memory ends here or above: none
    where no access does, or where records don't only go to the detector. */
 extern uintptr_t frames_short_way_first __asm__("__spbags_short_way_first");
 /* Whether records of the structure may go the short way: they only go to the detector, or into a trace. */

@@ -43,6 +43,7 @@ bool own_has_variables(void) { return own_now.part[OWN_VARIABLES].end > own_now.
 /* It counts as written in each strand, or as untouched. */
 static void set_own(struct own_memory memory, bool is_own) {
     uintptr_t granule = memory.first & ~granules_mask;
+    blocks_leave_quick_sites();
     for (; granule < memory.end && stacks_have(granule); granule += granules_mask + 1)
         *marks_at(granule) = is_own ? marks_own : MARK_UNTOUCHED;
     while (granule < memory.end) {
@@ -51,6 +52,7 @@ static void set_own(struct own_memory memory, bool is_own) {
         if (is_own)
             blocks_set(part.in.done, part.granules, BLOCK_WROTE);
         part.in.block->has_own = true;
+        part.in.block->quick_place = 0;
         granule = part.end;
     }
 }

@@ -55,13 +55,6 @@ static bool is_part(tree reference) {
            (TREE_CODE(reference) == COMPONENT_REF && DECL_BIT_FIELD(TREE_OPERAND(reference, 1)));
 }
 
-static tree address_of(tree reference) {
-    tree base = get_base_address(reference);
-    if (base && DECL_P(base))
-        mark_addressable(base);
-    return build_fold_addr_expr(unshare_expr(reference));
-}
-
 static gcall *call_of(tree address, tree size, unsigned alignment, bool writes, way made) {
     static const char *const usual[2][17] = {{0, "__tsan_read1", "__tsan_read2", 0, "__tsan_read4", 0, 0, 0,
                                               "__tsan_read8", 0, 0, 0, 0, 0, 0, 0, "__tsan_read16"},
@@ -78,11 +71,6 @@ static gcall *call_of(tree address, tree size, unsigned alignment, bool writes, 
     if (name && alignment >= MIN(bytes, 8) * BITS_PER_UNIT)
         return call_hook(name, {address});
     return call_hook(writes ? "__tsan_write_range" : "__tsan_read_range", {address, size});
-}
-
-static void locate(gimple_seq sequence, location_t location) {
-    for (gimple_stmt_iterator at = gsi_start(sequence); !gsi_end_p(at); gsi_next(&at))
-        gimple_set_location(gsi_stmt(at), location);
 }
 
 void accesses::put_before(gimple *statement, gimple_seq sequence) {

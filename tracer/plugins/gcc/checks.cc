@@ -1,27 +1,20 @@
 #include "checks.h"
 
+#include "../inline_checks.h"
+
 static bool checks_wanted;
 
 /* The macros come before all code. */
-static void put_macros(void *, void *file) {
-    std::string text, line;
-    /* What may become a part of a shared library has addresses in a table. */
-    if (flag_shlib)
-        text = "\t.set __spbags_is_shared, 1\n";
-    std::ifstream lines(static_cast<const char *>(file));
-    while (std::getline(lines, line))
-        if (line[0] != '#')
-            text += line + "\n";
-    if (!lines.eof())
-        fatal_error(UNKNOWN_LOCATION, "the plugin cannot read %s", static_cast<const char *>(file));
+static void put_macros(void *, void *) {
+    std::string text = std::string(flag_shlib ? "\t.set __spbags_is_shared, 1\n" : "") + inline_checks;
     if (ASSEMBLER_DIALECT == ASM_INTEL)
         text = "\t.att_syntax prefix\n" + text + "\t.intel_syntax noprefix\n";
     symtab->finalize_toplevel_asm(build_string(text.size() + 1, text.c_str()));
 }
 
-void checks_begin(const char *plugin, const char *file) {
+void checks_begin(const char *plugin) {
     checks_wanted = true;
-    register_callback(plugin, PLUGIN_START_UNIT, put_macros, const_cast<char *>(file));
+    register_callback(plugin, PLUGIN_START_UNIT, put_macros, nullptr);
 }
 
 /* ---- Memory of the function alone ---- */
@@ -174,8 +167,7 @@ static gimple_seq frame_test(const char *text, location_t location) {
     gimple_call_set_lhs(frame, pointer);
     gimple_seq_add_stmt(&sequence, frame);
     gimple_seq_add_stmt(&sequence, test(text, pointer));
-    for (gimple_stmt_iterator at = gsi_start(sequence); !gsi_end_p(at); gsi_next(&at))
-        gimple_set_location(gsi_stmt(at), location);
+    locate(sequence, location);
     return sequence;
 }
 

@@ -1,11 +1,11 @@
-/* The inline tests in place of calls of hooks, whose text for the assembler is in hooks/inline_checks.s. */
+/* The inline tests in place of calls of hooks, whose text for the assembler is in inline_checks.h. */
 #ifndef SPBAGS_CHECKS_H
 #define SPBAGS_CHECKS_H
 
 #include "hooks.h"
 
-/* There are tests, whose macros are in this file. Else hooks are called. */
-void checks_begin(const char *plugin, const char *file);
+/* There are tests. Else hooks are called. */
+void checks_begin(const char *plugin);
 
 /* Drops the hooks of variables of the function whose address nobody else gets, once that is known. Whether there were
    any. */

@@ -76,15 +76,6 @@ gcall *call_reading_hook(const char *name, std::initializer_list<tree> arguments
     return called(name, arguments, true);
 }
 
-tree hook_expression(const char *name, tree result, std::initializer_list<tree> arguments) {
-    tree function = function_named(functions, name, [&] { return type_for(result, arguments); });
-    TREE_NOTHROW(function) = 1;
-    auto_vec<tree> given;
-    for (tree argument : arguments)
-        given.safe_push(POINTER_TYPE_P(TREE_TYPE(argument)) ? build1(NOP_EXPR, ptr_type_node, argument) : argument);
-    return build_call_expr_loc_array(UNKNOWN_LOCATION, function, given.length(), given.address());
-}
-
 tree library_function(tree builtin) {
     const char *name = IDENTIFIER_POINTER(DECL_ASSEMBLER_NAME(builtin));
     tree function = function_named(functions, name, [&] { return TREE_TYPE(builtin); });
@@ -118,4 +109,16 @@ tree in_memory(tree value, gimple_seq *sequence) {
     TREE_ADDRESSABLE(variable) = 1;
     gimple_seq_add_stmt(sequence, gimple_build_assign(variable, value));
     return build_fold_addr_expr(variable);
+}
+
+tree address_of(tree reference) {
+    tree base = get_base_address(reference);
+    if (base && DECL_P(base))
+        mark_addressable(base);
+    return build_fold_addr_expr(unshare_expr(reference));
+}
+
+void locate(gimple_seq sequence, location_t location) {
+    for (gimple_stmt_iterator at = gsi_start(sequence); !gsi_end_p(at); gsi_next(&at))
+        gimple_set_location(gsi_stmt(at), location);
 }

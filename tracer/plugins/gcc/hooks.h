@@ -18,9 +18,6 @@ gcall *call_hook(const char *name, std::initializer_list<tree> arguments);
 /* The same of one that reads what its arguments point to, and may give a number. */
 gcall *call_reading_hook(const char *name, std::initializer_list<tree> arguments);
 
-/* The same as an expression of the program's, by a hook that may do anything and gives this type. */
-tree hook_expression(const char *name, tree result, std::initializer_list<tree> arguments);
-
 /* A function of a library under its own name, which the compiler knows nothing of: it has the type of a builtin. */
 tree library_function(tree builtin);
 
@@ -34,5 +31,10 @@ tree place_of(location_t location);
 
 /* The address of a variable that is made for this value. */
 tree in_memory(tree value, gimple_seq *sequence);
+/* That of what is named, an expression. */
+tree address_of(tree reference);
+
+/* All these statements have this place of the source. */
+void locate(gimple_seq sequence, location_t location);
 
 #endif

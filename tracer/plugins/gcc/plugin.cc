@@ -1,6 +1,6 @@
 /* A plugin of gcc that puts the tracer's hooks into the code of a program: beside each load and store of its text, and
-   at each function's entry and exit. gcc loads it by -fplugin, and -fplugin-arg-spbags-checks=FILE names the
-   assembler's macros of the tests that stand inline; without these hooks are called.
+   at each function's entry and exit. gcc loads it by -fplugin; by -fplugin-arg-spbags-checks tests stand inline,
+   without it hooks are called.
 
    Each function goes through passes: reducers.h puts the hooks of reducers there; frames.h marks the ways out;
    accesses.h puts the hooks of accesses before any optimization; checks.h drops those of what turns out to be the
@@ -104,7 +104,7 @@ int plugin_init(plugin_name_args *given, plugin_gcc_version *version) {
     }
     for (int at = 0; at < given->argc; at++)
         if (strcmp(given->argv[at].key, "checks") == 0)
-            checks_begin(given->base_name, given->argv[at].value);
+            checks_begin(given->base_name);
     hooks_begin(given->base_name);
     reducers_begin(given->base_name);
     for (const place &where : places) {

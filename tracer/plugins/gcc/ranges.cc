@@ -214,8 +214,7 @@ static gimple_seq hook_of(const range &what) {
                       ? call_hook(name, {what.start, size, given[0], given[1], given[2], given[3]})
                       : call_hook(name, {what.start, size, given[0], given[1], given[2], given[3], given[4], given[5]});
     gimple_seq_add_stmt(&sequence, call);
-    for (gimple_stmt_iterator at = gsi_start(sequence); !gsi_end_p(at); gsi_next(&at))
-        gimple_set_location(gsi_stmt(at), gimple_location(what.hook));
+    locate(sequence, gimple_location(what.hook));
     return sequence;
 }
 

@@ -5,16 +5,9 @@ bool reducer_types_any;
 
 /* ---- Types ---- */
 
-/* The name of a variant, or null. */
-static tree name_of(tree type) {
-    tree name = TYPE_NAME(type);
-    return name && TREE_CODE(name) == TYPE_DECL ? name : NULL_TREE;
-}
-
 tree reducer_types_of(tree type) {
-    tree element = strip_array_types(type), name = name_of(element);
-    tree own = lookup_attribute(NAME, TYPE_ATTRIBUTES(element));
-    return own || !name ? own : lookup_attribute(NAME, DECL_ATTRIBUTES(name));
+    tree name = TYPE_NAME(strip_array_types(type));
+    return name && DECL_P(name) ? lookup_attribute(NAME, DECL_ATTRIBUTES(name)) : NULL_TREE;
 }
 
 bool reducer_types_is_pointer(tree type) { return POINTER_TYPE_P(type) && reducer_types_of(TREE_TYPE(type)); }
@@ -43,7 +36,7 @@ bool reducer_types_has_pointers(tree type) {
 
 /* Whether this is a type around another, by the declaration's own text. */
 static bool is_around(tree type) {
-    return (POINTER_TYPE_P(type) && !name_of(type)) || FUNC_OR_METHOD_TYPE_P(type) || TREE_CODE(type) == ARRAY_TYPE;
+    return (POINTER_TYPE_P(type) && !TYPE_NAME(type)) || FUNC_OR_METHOD_TYPE_P(type) || TREE_CODE(type) == ARRAY_TYPE;
 }
 
 /* The same type around another one. */
@@ -60,13 +53,9 @@ static tree rebuilt(tree whole, tree type, tree instead) {
     return build_qualified_type(made, TYPE_QUALS(whole));
 }
 
-/* A variant of a class has no attributes of its own in C++, but its name may have some. */
+/* A variant whose name has the attribute: that of a class has none of its own in C++. */
 static tree variant_of(tree type, tree name, tree arguments) {
     tree variant = build_variant_type_copy(type);
-    if (!lang_GNU_CXX() || !(RECORD_OR_UNION_TYPE_P(type) || TREE_CODE(type) == ENUMERAL_TYPE)) {
-        TYPE_ATTRIBUTES(variant) = tree_cons(name, arguments, TYPE_ATTRIBUTES(type));
-        return variant;
-    }
     tree named = build_decl(input_location, TYPE_DECL, TYPE_IDENTIFIER(type), variant);
     DECL_ORIGINAL_TYPE(named) = type;
     DECL_ATTRIBUTES(named) = tree_cons(name, arguments, NULL_TREE);
@@ -78,64 +67,43 @@ static tree variant_of(tree type, tree name, tree arguments) {
 
 /* ---- The identity and the reduce function ---- */
 
-/* What functions call that touch nothing else than their variables and what they get, all by their numbers. Those that
-   touch more call one that isn't here. */
-static std::map<unsigned, std::vector<unsigned>> plain;
+/* What functions name that touch nothing else than their variables and what they get, all by their numbers. Those that
+   touch more name one that isn't here. */
+typedef std::vector<unsigned> numbers_of_functions;
+static std::map<unsigned, numbers_of_functions> plain;
 
-static void see(tree function);
-
-static tree look_at(tree *at, int *, void *calls) {
-    tree callee = TREE_CODE(*at) == CALL_EXPR ? get_callee_fndecl(*at) : NULL_TREE;
-    if (callee) {
-        static_cast<std::vector<unsigned> *>(calls)->push_back(DECL_UID(callee));
-        see(callee);
+/* Sees a function that is named, and what that names. */
+static tree see_function(tree *at, int *, void *named) {
+    if (TREE_CODE(*at) == FUNCTION_DECL) {
+        static_cast<numbers_of_functions *>(named)->push_back(DECL_UID(*at));
+        tree *body = &DECL_SAVED_TREE(*at);
+        if (*body && *body != error_mark_node && !plain.count(DECL_UID(*at))) {
+            numbers_of_functions &inside = plain[DECL_UID(*at)];
+            if (walk_tree_without_duplicates(body, see_function, &inside))
+                inside.push_back(0);
+        }
     }
-    bool touches_more = (TREE_CODE(*at) == CALL_EXPR && !callee) || (VAR_P(*at) && is_global_var(*at)) ||
-                        TREE_CODE(*at) == ASM_EXPR || TREE_CODE(*at) == STRING_CST;
+    bool touches_more = (TREE_CODE(*at) == CALL_EXPR && !get_callee_fndecl(*at)) || TREE_CODE(*at) == ASM_EXPR ||
+                        (VAR_P(*at) && is_global_var(*at)) || TREE_CODE(*at) == STRING_CST;
     return touches_more ? *at : NULL_TREE;
 }
 
-static void see(tree function) {
-    tree *body = &DECL_SAVED_TREE(function);
-    if (!*body || *body == error_mark_node || plain.count(DECL_UID(function)))
-        return;
-    std::vector<unsigned> &calls = plain[DECL_UID(function)];
-    if (walk_tree_without_duplicates(body, look_at, &calls))
-        calls.push_back(0);
+/* One that names itself is as what else it names. */
+static bool are_plain(const numbers_of_functions &named, std::set<unsigned> *seen) {
+    return std::all_of(named.begin(), named.end(), [&](unsigned function) {
+        auto found = plain.find(function);
+        return !seen->insert(function).second || (found != plain.end() && are_plain(found->second, seen));
+    });
 }
 
-/* One that calls itself is as what else it calls. */
-static bool is_plain(unsigned function, std::vector<unsigned> *around) {
-    if (std::find(around->begin(), around->end(), function) != around->end())
-        return true;
-    auto found = plain.find(function);
-    around->push_back(function);
-    return found != plain.end() && std::all_of(found->second.begin(), found->second.end(),
-                                               [&](unsigned called) { return is_plain(called, around); });
-}
-
-/* A function that an attribute's call has, or null. A lambda gives one by a call. */
-static tree function_given(tree arguments, int number) {
-    tree given = CALL_EXPR_ARG(TREE_VALUE(arguments), number);
-    while (CONVERT_EXPR_P(given) || TREE_CODE(given) == ADDR_EXPR || TREE_CODE(given) == NON_LVALUE_EXPR ||
-           TREE_CODE(given) == COMPOUND_EXPR)
-        given = TREE_OPERAND(given, TREE_CODE(given) == COMPOUND_EXPR);
-    if (TREE_CODE(given) == FUNCTION_DECL)
-        return given;
-    tree callee = TREE_CODE(given) == CALL_EXPR ? get_callee_fndecl(given) : NULL_TREE;
-    tree around = callee ? DECL_CONTEXT(callee) : NULL_TREE;
-    for (tree member = around && TYPE_P(around) ? TYPE_FIELDS(around) : NULL_TREE; member; member = DECL_CHAIN(member))
-        if (TREE_CODE(member) == FUNCTION_DECL && id_equal(DECL_NAME(member), "operator()"))
-            return member;
-    return NULL_TREE;
-}
-
-static bool is_plain(tree arguments) {
+/* A lambda is named by the function that gives its address. */
+static bool are_plain(tree arguments) {
     for (int number = 0; arguments && number < 2; number++) {
-        tree function = function_given(arguments, number);
-        std::vector<unsigned> around;
-        if (function ? !is_plain(DECL_UID(function), &around)
-                     : !integer_zerop(CALL_EXPR_ARG(TREE_VALUE(arguments), number)))
+        tree *given = &CALL_EXPR_ARG(TREE_VALUE(arguments), number);
+        numbers_of_functions named;
+        std::set<unsigned> seen;
+        if (walk_tree_without_duplicates(given, see_function, &named) || !are_plain(named, &seen) ||
+            (named.empty() && !integer_zerop(*given)))
             return false;
     }
     return arguments;
@@ -146,14 +114,15 @@ std::string reducer_types_name(tree decl) {
 }
 
 tree reducer_types_note(tree decl, tree type, tree attribute) {
-    tree arguments = TREE_VALUE(attribute), reduce = arguments ? function_given(arguments, 1) : NULL_TREE;
+    tree arguments = TREE_VALUE(attribute);
     bool has_pointers = reducer_types_has_pointers(type);
-    if (is_plain(arguments) && !has_pointers)
+    if (!has_pointers && are_plain(arguments))
         return null_pointer_node;
-    std::string name = reduce ? reducer_types_name(reduce) : "operator()";
+    tree reduce = arguments ? tree_strip_nop_conversions(CALL_EXPR_ARG(TREE_VALUE(arguments), 1)) : NULL_TREE;
+    bool is_named = reduce && TREE_CODE(reduce) == ADDR_EXPR && TREE_CODE(TREE_OPERAND(reduce, 0)) == FUNCTION_DECL;
     return literal_of(text_of_place(DECL_P(decl) ? DECL_SOURCE_LOCATION(decl) : input_location) + ": what " +
-                      (name == "operator()" ? "the reduce function" : name) + " does for the reducer " +
-                      reducer_types_name(decl) + " in another schedule isn't run" +
+                      (is_named ? reducer_types_name(TREE_OPERAND(reduce, 0)) : "the reduce function") +
+                      " does for the reducer " + reducer_types_name(decl) + " in another schedule isn't run" +
                       (has_pointers ? ", nor is it seen what updates of the reducer access inside of functions" : ""));
 }
 
@@ -174,9 +143,8 @@ static tree with_attribute(tree node, tree name, tree arguments, int flags) {
 /* A variable, a member or an array has the attribute itself; of all else it is the type of what is pointed to. */
 static tree read_attribute(tree *node, tree name, tree arguments, int flags, bool *leaves_out) {
     reducer_types_any = true;
-    for (int number = 0; arguments && number < 2; number++)
-        if (tree function = function_given(arguments, number))
-            see(function);
+    /* Which has seen the functions that are known already. */
+    are_plain(arguments);
     *leaves_out = true;
     location_t location = DECL_P(*node) ? DECL_SOURCE_LOCATION(*node) : input_location;
     tree type = with_attribute(*node, name, arguments, flags);
@@ -203,8 +171,10 @@ static void register_attributes(void *, void *) {
 }
 
 static void read_function(void *function, void *) {
+    tree decl = static_cast<tree>(function);
+    numbers_of_functions named;
     if (reducer_types_any)
-        see(static_cast<tree>(function));
+        see_function(&decl, nullptr, &named);
 }
 
 void reducer_types_begin(const char *plugin) {

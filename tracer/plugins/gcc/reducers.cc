@@ -17,54 +17,52 @@ static bool is_named(tree decl, const char *beginning) {
 
 /* ---- Hooks ---- */
 
-/* A block with a call of a hook, which is its last statement. */
-static gbind *block_of(tree expression, location_t location) {
+static void put_before(gimple_stmt_iterator *at, const char *name, std::initializer_list<tree> arguments) {
+    gcall *hook = call_hook(name, arguments);
+    gimple_set_location(hook, gimple_location(gsi_stmt(*at)));
+    gsi_insert_before(at, hook, GSI_SAME_STMT);
+}
+
+/* A block whose last statement is a hook of what is named; a note is for some. */
+static gbind *block_of(const char *name, tree named, tree note, location_t location) {
     gimple_seq made = nullptr;
     push_gimplify_context();
-    gimplify_and_add(expression, &made);
-    for (gimple_stmt_iterator at = gsi_start(made); !gsi_end_p(at); gsi_next(&at))
-        gimple_set_location(gsi_stmt(at), location);
+    tree address = address_of(named), size = unshare_expr(TYPE_SIZE_UNIT(TREE_TYPE(named)));
+    gimplify_expr(&address, &made, nullptr, is_gimple_val, fb_rvalue);
+    gimplify_expr(&size, &made, nullptr, is_gimple_val, fb_rvalue);
+    gimple_seq_add_stmt(&made, note ? call_hook(name, {address, size, note}) : call_hook(name, {address, size}));
+    locate(made, location);
     gbind *block = gimple_build_bind(NULL_TREE, made, NULL_TREE);
     pop_gimplify_context(block);
     return block;
 }
 
-static void put_before(gimple_stmt_iterator *at, tree hook) {
-    gsi_insert_before(at, block_of(hook, gimple_location(gsi_stmt(*at))), GSI_SAME_STMT);
-}
-
 /* What the function does isn't recorded, since views have more memory elsewhere. */
 static void hide(gimple_stmt_iterator *at) {
-    gimple *call = gimple_copy(gsi_stmt(*at));
+    gimple *call = gimple_copy(gsi_stmt(*at)), *show = call_hook("__spbags_show", {});
     if (tree result = gimple_get_lhs(call); result && TREE_CODE(result) == SSA_NAME)
         SSA_NAME_DEF_STMT(result) = call;
-    put_before(at, hook_expression("__spbags_hide", void_type_node, {}));
-    gbind *shows = block_of(hook_expression("__spbags_show", void_type_node, {}), gimple_location(call));
-    gsi_replace(at, gimple_build_try(call, shows, GIMPLE_TRY_FINALLY), false);
+    put_before(at, "__spbags_hide", {});
+    gimple_set_location(show, gimple_location(call));
+    gsi_replace(at, gimple_build_try(call, show, GIMPLE_TRY_FINALLY), false);
 }
 
-static tree size_of(tree type) { return fold_convert(long_unsigned_type_node, unshare_expr(TYPE_SIZE_UNIT(type))); }
-
-static void put_around(gbind *block, tree decl, tree attribute) {
-    location_t location = DECL_SOURCE_LOCATION(decl);
-    tree named = DECL_HAS_VALUE_EXPR_P(decl) ? DECL_VALUE_EXPR(decl) : decl, type = TREE_TYPE(decl);
-    tree address = build_fold_addr_expr(unshare_expr(named)), size = size_of(type), each = strip_array_types(type);
-    tree note = reducer_types_note(decl, each, attribute);
-    tree begin = hook_expression("__spbags_reducers", void_type_node, {address, size, size_of(each), note});
-    tree end = hook_expression("__spbags_reducers_end", void_type_node, {address, size});
-    /* One whose memory isn't there yet begins with its first use. */
-    gimple_seq body = named == decl ? block_of(begin, location) : nullptr;
-    gimple *whole = gimple_build_try(gimple_bind_body(block), block_of(end, location), GIMPLE_TRY_FINALLY);
-    gimple_seq_add_stmt(&body, whole);
-    gimple_bind_set_body(block, body);
-}
-
-/* The variables of a block that are reducers begin and end with it. */
+/* The variables of a block that are reducers begin and end with it. Elements, and one whose memory isn't there yet,
+   begin with their first use. */
 static void put_around(gbind *block) {
-    for (tree decl = gimple_bind_vars(block); decl; decl = DECL_CHAIN(decl))
-        if (VAR_P(decl) && !is_global_var(decl))
-            if (tree attribute = reducer_types_attribute(decl))
-                put_around(block, decl, attribute);
+    for (tree decl = gimple_bind_vars(block); decl; decl = DECL_CHAIN(decl)) {
+        tree attribute = VAR_P(decl) && !is_global_var(decl) ? reducer_types_attribute(decl) : NULL_TREE;
+        if (!attribute)
+            continue;
+        tree named = DECL_HAS_VALUE_EXPR_P(decl) ? DECL_VALUE_EXPR(decl) : decl, type = TREE_TYPE(decl);
+        location_t location = DECL_SOURCE_LOCATION(decl);
+        gbind *end = block_of("__spbags_reducers_end", named, NULL_TREE, location);
+        gimple_seq body = nullptr;
+        if (named == decl && TREE_CODE(type) != ARRAY_TYPE)
+            body = block_of("__spbags_reducer", decl, reducer_types_note(decl, type, attribute), location);
+        gimple_seq_add_stmt(&body, gimple_build_try(gimple_bind_body(block), end, GIMPLE_TRY_FINALLY));
+        gimple_bind_set_body(block, body);
+    }
 }
 
 /* ---- Uses ---- */
@@ -123,11 +121,10 @@ class reducer_uses {
     }
 
   private:
-    /* The view, the hook before the statement that uses it, and the hook's function for an update. */
+    /* The view, and the hook before the statement that uses it. */
     struct use {
         tree view;
         gcall *hook;
-        tree update;
     };
     std::vector<use> all;
     /* What sets a temporary variable, and on what its value depends. */
@@ -220,7 +217,11 @@ class reducer_uses {
             guards.push_back({{labels[0], labels[1]}, depends});
     }
 
-    void update(size_t number) { gimple_call_set_fn(all[number].hook, all[number].update); }
+    void update(size_t number) {
+        gcall *hook = all[number].hook;
+        tree address = gimple_call_arg(hook, 0), size = gimple_call_arg(hook, 1), note = gimple_call_arg(hook, 2);
+        gimple_call_set_fndecl(hook, gimple_call_fndecl(call_hook("__spbags_update", {address, size, note})));
+    }
 
     /* Its number. */
     size_t add(gimple_stmt_iterator *at, tree view, usage made, const numbers &depends) {
@@ -234,15 +235,12 @@ class reducer_uses {
         numbers same;
         std::copy_if(depends.begin(), depends.end(), std::inserter(same, same.end()),
                      [&](size_t number) { return is_same(all[number].view, view); });
-        tree address = build_fold_addr_expr(unshare_expr(view)), size = size_of(type),
-             note = reducer_types_note(decl, type, reducer_types_attribute(view)),
-             value = hook_expression("__spbags_value", ptr_type_node, {address, size, note}),
-             changed = hook_expression("__spbags_update", ptr_type_node, {address, size, note});
-        put_before(at, made == UPDATES || (made == SETS && !same.empty()) ? changed : value);
-        gimple_stmt_iterator before = *at;
-        gsi_prev(&before);
-        gimple_seq block = gimple_bind_body(as_a<gbind *>(gsi_stmt(before)));
-        all.push_back({view, as_a<gcall *>(gimple_seq_last_stmt(block)), CALL_EXPR_FN(changed)});
+        tree note = reducer_types_note(decl, type, reducer_types_attribute(view));
+        gbind *block = block_of("__spbags_value", view, note, location);
+        gsi_insert_before(at, block, GSI_SAME_STMT);
+        all.push_back({view, as_a<gcall *>(gimple_seq_last_stmt(gimple_bind_body(block)))});
+        if (made == UPDATES || (made == SETS && !same.empty()))
+            update(all.size() - 1);
         if (made != READS)
             std::for_each(same.begin(), same.end(), [&](size_t number) { update(number); });
         return all.size() - 1;
@@ -259,7 +257,7 @@ class reducer_uses {
         std::string text = text_of_place(gimple_location(gsi_stmt(*at))) +
                            ": what is done by this address of the reducer " + reducer_types_name(declaration(view)) +
                            " counts as an update";
-        put_before(at, hook_expression("__spbags_not_seen", void_type_node, {literal_of(text)}));
+        put_before(at, "__spbags_not_seen", {literal_of(text)});
     }
 
     void store(gimple_stmt_iterator *at, tree to, const numbers &depends) {
@@ -367,16 +365,12 @@ static tree see_statement(gimple_stmt_iterator *at, bool *is_done, walk_stmt_inf
 
 static tree note_used(tree *at, int *, void *data) {
     walk_stmt_info *info = static_cast<walk_stmt_info *>(data);
-    if (is_temporary(*at) && *at != gimple_get_lhs(gsi_stmt(info->gsi)))
-        static_cast<reducer_uses *>(info->info)->used.insert(*at);
-    return NULL_TREE;
-}
-
-/* What ends a variable is no use of its value. */
-static tree skip_end(gimple_stmt_iterator *at, bool *is_done, walk_stmt_info *) {
-    gimple *statement = gsi_stmt(*at);
+    gimple *statement = gsi_stmt(info->gsi);
     tree callee = is_gimple_call(statement) ? gimple_call_fndecl(statement) : NULL_TREE;
-    *is_done = gimple_clobber_p(statement) || (callee && DECL_CXX_DESTRUCTOR_P(callee));
+    /* What ends a variable is no use of its value. */
+    bool ends = callee && DECL_CXX_DESTRUCTOR_P(callee);
+    if (is_temporary(*at) && *at != gimple_get_lhs(statement) && !ends)
+        static_cast<reducer_uses *>(info->info)->used.insert(*at);
     return NULL_TREE;
 }
 
@@ -388,7 +382,7 @@ void reducers_put(function *fun) {
     memset(&info, 0, sizeof info);
     info.info = &all;
     gimple_seq body = gimple_body(fun->decl);
-    walk_gimple_seq(body, skip_end, note_used, &info);
+    walk_gimple_seq(body, nullptr, note_used, &info);
     walk_gimple_seq_mod(&body, see_statement, nullptr, &info);
     gimple_set_body(fun->decl, body);
 }

@@ -13,7 +13,7 @@ void reducers_put(function *fun);
 /* Whether the source has a reducer. */
 extern bool reducer_types_any;
 
-/* A variable or a member that is a reducer has the attribute, and its type is a variant that has it too: so it is known
+/* A variable or a member that is a reducer has the attribute, and so has the name of its type, a variant: so it is known
    what pointers and references to it point to. That of a type, or of an array's elements; and of what an expression
    names, a reducer or an array of some; or null. */
 tree reducer_types_of(tree type);

@@ -1,29 +1,20 @@
 #include "checks.h"
 
-#include <fstream>
-#include <sstream>
-
 #include "llvm/Support/CommandLine.h"
+
+#include "../inline_checks.h"
 
 using namespace llvm;
 
-static cl::opt<std::string> file("spbags-checks", cl::desc("The macros of tests that stand inline"));
-
-static bool are_wanted() { return !file.empty(); }
+static cl::opt<bool> are_wanted("spbags-checks", cl::desc("Tests stand inline"));
 
 void checks_begin(Module &module) {
-    if (!are_wanted())
+    if (!are_wanted)
         return;
     /* What may become a part of a shared library has addresses in a table. */
     bool is_shared = module.getPICLevel() != PICLevel::NotPIC && module.getPIELevel() == PIELevel::Default;
-    std::string text = is_shared ? "\t.set __spbags_is_shared, 1\n" : "", line;
-    std::ifstream lines(file);
-    while (std::getline(lines, line))
-        if (line[0] != '#')
-            text += line + "\n";
-    if (!lines.eof())
-        report_fatal_error(Twine("the plugin cannot read ") + file);
-    module.setModuleInlineAsm(text + module.getModuleInlineAsm());
+    std::string text = is_shared ? "\t.set __spbags_is_shared, 1\n" : "";
+    module.setModuleInlineAsm(text + inline_checks + module.getModuleInlineAsm());
 }
 
 /* All that a call changes: the text calls the hook where the test doesn't do. */
@@ -54,7 +45,7 @@ void checks_put(Function &function) {
                                                          {"__tsan_write8", "\t__spbags_write 8"}};
     std::vector<CallInst *> replaced;
     for (Instruction &one : instructions(function))
-        if (are_wanted() && tests.count(called_hook(one)) > 0)
+        if (are_wanted && tests.count(called_hook(one)) > 0)
             replaced.push_back(cast<CallInst>(&one));
     for (CallInst *call : replaced) {
         test(call, tests.at(called_hook(*call)), call->getArgOperand(0))->setDebugLoc(call->getDebugLoc());
@@ -66,7 +57,7 @@ void checks_put(Function &function) {
 static void put(Instruction *before, StringRef text, StringRef hook, ArrayRef<Value *> arguments,
                 const DebugLoc &where) {
     CallInst *call;
-    if (are_wanted()) {
+    if (are_wanted) {
         IRBuilder<> builder(before);
         Type *pointer = pointer_type(before->getContext());
         Value *frame = builder.CreateIntrinsic(Intrinsic::frameaddress, {pointer}, {builder.getInt32(0)});

@@ -1,4 +1,4 @@
-/* The inline tests in place of calls of hooks, whose text for the assembler is in hooks/inline_checks.s. */
+/* The inline tests in place of calls of hooks, whose text for the assembler is in inline_checks.h. */
 #ifndef SPBAGS_CHECKS_H
 #define SPBAGS_CHECKS_H
 

@@ -1,14 +1,16 @@
 /* A plugin of clang that puts the tracer's hooks into the code of a program: beside each load and store of its text, and
    at each function's entry and exit. clang loads it by -fpass-plugin, and by -Xclang -load too before -mllvm
-   -spbags-checks=FILE, which names the assembler's macros of the tests that stand inline; without these hooks are called.
+   -spbags-checks: then tests stand inline, and without that hooks are called.
 
    accesses.h puts the hooks of accesses before any optimization; at last own.h drops those of what turns out to be a
-   function's alone, frames.h puts those of entry and exit, and checks.h tests in place of calls. */
+   function's alone, ranges.h makes one of those of a loop, frames.h puts those of entry and exit, and checks.h tests in
+   place of calls. */
 #include "accesses.h"
 #include "checks.h"
 #include "frames.h"
 #include "names.h"
 #include "own.h"
+#include "ranges.h"
 
 #include "llvm/Passes/PassBuilder.h"
 #include "llvm/Passes/PassPlugin.h"
@@ -60,11 +62,14 @@ class early : public PassInfoMixin<early> {
 class late : public PassInfoMixin<late> {
   public:
     static bool isRequired() { return true; }
-    PreservedAnalyses run(Module &module, ModuleAnalysisManager &) {
+    PreservedAnalyses run(Module &module, ModuleAnalysisManager &analyses) {
+        auto &of_functions = analyses.getResult<FunctionAnalysisManagerModuleProxy>(module).getManager();
         checks_begin(module);
         for (Function &function : module)
             if (is_traced(function)) {
                 own_drop(function);
+                if (!function.hasOptNone())
+                    ranges_put(function, of_functions);
                 frames_put(function);
                 checks_put(function);
             }

@@ -1,19 +1,33 @@
-# The test for a repeat at an access, in place of the call of its hook: the compiler's plugin puts it there. The
-# address is in %rdi, and what a call may change is free. An access goes the short way, as in program/accesses.c, if
-# the stack pointer is below the end of that way, and the address is a multiple of the size. A region of the stack has a row
-# below 0, and marks there: then a repeat calls nothing. Others have a byte for each granule: then a repeat calls nothing, nor
-# does the first access to granules whose bytes say BLOCK_QUICK, which is the sign. It says there what is done before it
-# knows that, so that a handler of a signal between changes nothing; for all else `first` takes that back, `stack` is called
-# where not all marks are of repeats, and `long` for the rest.
-#
-# What may become a part of a shared library, where the assembler knows __spbags_is_shared, has addresses in a table.
-.macro __spbags_global BEFORE, NAME, BEHIND, FREE
+/* The tests that stand inline in place of calls of hooks, as macros of the assembler: each compiler's plugin puts the
+   text before all code. */
+#ifndef SPBAGS_INLINE_CHECKS_H
+#define SPBAGS_INLINE_CHECKS_H
+
+/* That for a repeat at an access. The address is in %rdi, and what a call may change is free. An access goes the short
+   way, as in program/accesses.c, if the stack pointer is below the end of that way, and the address is a multiple of
+   the size. A region of the stack has a row below 0, and marks there: then a repeat calls nothing. Others have a byte
+   for each granule: then a repeat calls nothing, nor does the first access to granules whose bytes say BLOCK_QUICK,
+   which is the sign, or to those of the block that this access remembers, by shadow/blocks.h. It says there what is
+   done before it knows that, so that a handler of a signal between changes nothing; for all else `block` takes that
+   back, `stack` is called where not all marks are of repeats, and `long` for the rest.
+
+   What may become a part of a shared library, where the assembler knows __spbags_is_shared, has its addresses in a
+   table. */
+static const char inline_checks[] =
+    R"(.macro __spbags_global BEFORE, NAME, BEHIND, FREE
 .ifdef __spbags_is_shared
 	movq \NAME@GOTPCREL(%rip), \FREE
 	\BEFORE (\FREE)\BEHIND
 .else
 	\BEFORE \NAME(%rip)\BEHIND
 .endif
+.endm
+# What an access remembers is 9: whether that is the block with this byte.
+.macro __spbags_remembered
+	leaq (%rsi,%rax), %rcx
+	andq $-64, %rcx
+	__spbags_global orq, __spbags_period, ", %rcx", %rdx
+	cmpq %rcx, 9f(%rip)
 .endm
 .macro __spbags_inline_check KIND, SIZE, BIT, BITS, IS_REPEAT, IS_NONE
 	__spbags_global cmpq, __spbags_short_way_end, ", %rsp", %rax
@@ -41,7 +55,7 @@
 .else
 	jne 2f
 	orb $\BIT, (%rsi,%rax)
-	jns 3f
+	jns 7f
 2:
 	movzbl 1(%rsi,%rax), %ecx
 	testb $\BITS, %cl
@@ -50,10 +64,19 @@
 	js 6f
 	incq %rsi
 .endif
+	__spbags_remembered
+	je 6f
 3:
 	addq %rax, %rsi
-	call __spbags_first_\KIND\SIZE
+	leaq 9f(%rip), %rdx
+	call __spbags_block_\KIND\SIZE
 	jmp 6f
+.if \SIZE == 8
+7:
+	__spbags_remembered
+	je 2b
+	jmp 3b
+.endif
 4:
 	je 1f
 	addq %rdi, %rsi
@@ -70,6 +93,11 @@
 1:
 	call __spbags_long_\KIND\SIZE
 6:
+	.pushsection spbags_sites, "aw", @nobits
+	.balign 8
+9:
+	.zero 8
+	.popsection
 .endm
 .macro __spbags_read SIZE
 	__spbags_inline_check read, \SIZE, 1, 3, jae, jb
@@ -77,8 +105,10 @@
 .macro __spbags_write SIZE
 	__spbags_inline_check write, \SIZE, 2, 2, ja, jbe
 .endm
-# The same of a variable of the function itself: it has marks, whose addresses are as far apart as those of the usual granules.
-.macro __spbags_local_check KIND, SIZE, IS_REPEAT, IS_NONE
+)"
+    /* The same of a variable of the function itself: it has marks, whose addresses are as far apart as those of the
+       usual granules. */
+    R"(.macro __spbags_local_check KIND, SIZE, IS_REPEAT, IS_NONE
 	__spbags_global cmpq, __spbags_short_way_end, ", %rsp", %rax
 	jae 1f
 	__spbags_global movq, __spbags_marks, ", %rsi", %rax
@@ -103,11 +133,13 @@
 .macro __spbags_write_local SIZE
 	__spbags_local_check write, \SIZE, ja, jbe
 .endm
-# The usual entry of a function, in place of the call of its hook: accesses go the short way, the newest frame hasn't
-# ended, and nothing has a mark below this one's end. A frame has 56 bytes: its end; its kind, which is 2 for a child, and
-# three numbers, all of them 0 here; how many records went before it; and what only others have. Before the frame is the
-# newest one, a handler of a signal may have its own there: so the rest is written then, and the end again.
-.macro __spbags_entry
+)"
+    /* The usual entry of a function, in place of the call of its hook: accesses go the short way, the newest frame
+       hasn't ended, and nothing has a mark below this one's end. A frame has 56 bytes: its end; its kind, which is 2
+       for a child, and three numbers, all of them 0 here; how many records went before it; and what only others have.
+       Before the frame is the newest one, a handler of a signal may have its own there: so the rest is written then,
+       and the end again. */
+    R"(.macro __spbags_entry
 	leaq 16(%rbp), %rcx
 	__spbags_global movq, __spbags_top, ", %rax", %rax
 	__spbags_global cmpq, __spbags_short_way_first, ", %rcx", %rdx
@@ -133,8 +165,9 @@
 	call __tsan_func_entry
 6:
 .endm
-# And its usual exit: the newest frame is the function's, with nothing that stands open.
-.macro __spbags_exit
+)"
+    /* And its usual exit: the newest frame is the function's, with nothing that stands open. */
+    R"(.macro __spbags_exit
 	leaq 16(%rbp), %rcx
 	__spbags_global cmpq, __spbags_short_way_end, ", %rcx", %rdx
 	jne 7f
@@ -154,3 +187,6 @@
 	call __tsan_func_exit
 6:
 .endm
+)";
+
+#endif
