@@ -69,7 +69,16 @@ class Hooks:
 
     def compile_source(self, name: str) -> str:
         made = os.path.join(self.folder, name.replace("/", "-") + ".o")
-        run(*self.compiler.command, *self.flags, f"-I{self.folder}", f"-I{HERE}/hooks", "-c", os.path.join(HERE, name), "-o", made)
+        run(
+            *self.compiler.command,
+            *self.flags,
+            f"-I{self.folder}",
+            f"-I{HERE}/hooks",
+            "-c",
+            os.path.join(HERE, name),
+            "-o",
+            made,
+        )
         return made
 
     def compile(self) -> str:
