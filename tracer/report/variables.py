@@ -59,7 +59,7 @@ ALIGNS = re.compile(
 LONGEST_START, PUSH = 48, re.compile(rb"\x41?[\x50-\x57]")
 OWN = re.compile("__spbags_")
 # The hooks of accesses, by their width in bytes.
-ACCESS = re.compile("__(?:tsan|spbags_(?:first|stack|long))_(?:read|write)([0-9]+)")
+ACCESS = re.compile("__(?:tsan|spbags_(?:block|stack|long))_(?:read|write)([0-9]+)")
 CALL, CALL_SIZE = 0xE8, 5
 OUTLINED = re.compile(r"\._omp_(?:cpy)?fn\.[0-9]+$")
 # The lock of a critical region of OpenMP: gcc's, and clang's, which has one too if the region has no name.
