@@ -14,7 +14,8 @@ TOKEN = re.compile(
     r"|(?P<string>\"(?:\\.|[^\"\\\n])*\")"
     r"|(?P<character>'(?:\\.|[^'\\\n])*')"
     r"|(?P<number>\.?[0-9](?:[eEpP][+-]|'(?=\w)|[0-9A-Za-z_.])*)"
-    r"|(?P<word>[A-Za-z_$\x80-\uffff][A-Za-z0-9_$\x80-\uffff]*)"
+    # Of letters, digits, `_` and `$`, and of all that isn't ASCII: said so, it is compiled quickly.
+    r"|(?P<word>[^\x00-#%-@\[-^`{-\x7f][^\x00-#%-/:-@\[-^`{-\x7f]*)"
     r"|(?P<mark><%|%>|<:(?!:[^:>])|:>|\.\.\.|<<=|>>=|->|\+\+|--|<<|>>|[-+*/%&|^=!<>]=|&&|::|\|\||.)",
     re.MULTILINE,
 )
@@ -35,7 +36,10 @@ CONTROLS = {"if", "for", "while", "switch", "_Cilk_for"}
 
 TYPE_CHECKING = False
 if TYPE_CHECKING:
-    from typing import Any
+    from typing import Any, NoReturn
+
+    # What is put in place of tokens, by the first and the last; or behind one.
+    Edit = tuple[Any, ...]
 
 
 class Refused(Exception):
@@ -61,7 +65,16 @@ class Token:
         return f"\n# {self.line} {self.file}{flags}\n"
 
     def place(self) -> str:
-        return f"{self.file[1:-1]}:{self.line}"
+        """Its line in the source, and its column there, as a compiler counts it, if the line has the word once."""
+        name = self.file[1:-1]
+        try:
+            with open(name, encoding="utf-8", errors="replace") as source:
+                line = next(itertools.islice(source, self.line - 1, None), "")
+        except OSError:
+            line = ""
+        word = re.escape(self.text).replace("_Cilk_", "_?[cC]ilk_", 1)
+        found = [match.start() for match in re.finditer(rf"\b{word}\b", line)]
+        return f"{name}:{self.line}" + (f":{len(line[:found[0]].expandtabs()) + 1}" if len(found) == 1 else "")
 
 
 def tokens_of(text: str, parts: Iterable[tuple[int, int]] | None = None) -> list[Token]:
@@ -96,28 +109,32 @@ def literal_at(text: str, at: int) -> re.Match[str] | None:
 def blanked(text: str) -> str:
     """The text with spaces in place of what strings and characters hold, and with brackets in place of digraphs. It has
     the same places and lines."""
-    made, done, mark = [], 0, QUOTE_OR_DIGRAPH.search(text)
-    while mark:
-        bracket, literal, end = DIGRAPHS.get(mark[0]), None, mark.end()
+    return replaced(text, blanks_of(text))
+
+
+def blanks_of(text: str) -> Iterator[tuple[int, int, str]]:
+    end = 0
+    while mark := QUOTE_OR_DIGRAPH.search(text, end):
+        bracket, start, end = DIGRAPHS.get(mark[0]), mark.start(), mark.end()
         if bracket:
-            made += [text[done : mark.start()], bracket + " "]
-            done = end
-        else:
-            literal = literal_at(text, mark.start())
-        if literal:
-            made += [text[done:end], re.sub(r"[^\n]", " ", literal[0][1:-1])]
-            done, end = literal.end() - 1, literal.end()
-        mark = QUOTE_OR_DIGRAPH.search(text, end)
+            yield start, end, bracket + " "
+        elif literal := literal_at(text, start):
+            end = literal.end()
+            yield start + 1, end - 1, re.sub(r"[^\n]", " ", literal[0][1:-1])
+
+
+def replaced(text: str, parts: Iterable[tuple[int, int, str]]) -> str:
+    """The text with another in place of each of these parts, from a place to an end, which come in their order."""
+    made, done = [], 0
+    for start, end, instead in parts:
+        made += [text[done:start], instead]
+        done = end
     return "".join(made) + text[done:]
 
 
 def without(text: str, pattern: re.Pattern[str]) -> str:
     """The text without what this matches outside of strings."""
-    made, done = [], 0
-    for found in pattern.finditer(blanked(text)):
-        made.append(text[done : found.start()])
-        done = found.end()
-    return "".join(made) + text[done:]
+    return replaced(text, ((*found.span(), "") for found in pattern.finditer(blanked(text))))
 
 
 def after_bracket(bare: str, opening: int) -> int | None:
@@ -239,14 +256,6 @@ def own_constants(tokens: list[Token], first: int, name: int) -> list[Token]:
     return [token for token in own_words(tokens, first, name) if token.text == "const"]
 
 
-def piece(text: str, first: Token, last: Token, without: Iterable[Token] = ()) -> str:
-    """The program's text from one token to another, on its own lines, with space in place of some tokens."""
-    start, found = first.start, text[first.start : last.end]
-    for token in without:
-        found = found[: token.start - start] + " " * len(token.text) + found[token.end - start :]
-    return first.marker() + found
-
-
 def arguments_of(tokens: list[Token], opening: int) -> list[tuple[int, int]]:
     """The first and last index of each argument."""
     arguments, first = [], opening + 1
@@ -264,3 +273,22 @@ def is_lvalue(tokens: list[Token], first: int, end: int) -> bool:
         return True
     stop, last = after_postfixes(tokens, first + 1)
     return stop == end and (last is None or tokens[last].text != "(")
+
+
+class Construct:
+    """A keyword of Cilk in a source, and what is rewritten with it."""
+
+    def __init__(self, text: str, tokens: list[Token], at: int) -> None:
+        self.text, self.tokens, self.at = text, tokens, at
+        # Puts what follows on the keyword's line of the program.
+        self.here = tokens[at].marker(" 3")
+
+    def refuse(self, why: str) -> NoReturn:
+        raise Refused(self.tokens[self.at], why)
+
+    def piece(self, first: int, last: int, without: Iterable[Token] = ()) -> str:
+        """The program's text from one token to another, on its own lines, with space in place of some tokens."""
+        start, found = self.tokens[first].start, self.text[self.tokens[first].start : self.tokens[last].end]
+        for token in without:
+            found = found[: token.start - start] + " " * len(token.text) + found[token.end - start :]
+        return self.tokens[first].marker() + found + self.here

@@ -3,14 +3,12 @@ compilers' plugins, which see other assembly, don't see where it is, and say of 
 from __future__ import annotations
 
 import re
-from collections.abc import Iterator
-from bisect import bisect_left
 
 from compile.line_markers import Files
-from tokens import BRACKET, CONTROLS, Token, after_bracket, blanked, match_brackets
+from tokens import BRACKET, CONTROLS, PARTNERS, after_bracket, blanked
 
 ASM = re.compile(
-    r"\b(?:asm|__asm__|__asm)\s*" r"((?:(?:volatile|__volatile__|__volatile|inline|__inline__|__inline|goto)\s*)*)\("
+    r"\b(?:asm|__asm__|__asm)\s*((?:(?:volatile|__volatile__|__volatile|inline|__inline__|__inline|goto)\s*)*)\("
 )
 DIRECTIVE = re.compile(r"^#[^\n]*", re.MULTILINE)
 # What a statement follows; and the words before a bracket that one follows.
@@ -19,90 +17,56 @@ WORD_BEFORE = re.compile(r"(\w*)\s*\Z")
 STRINGS = re.compile(r'(?:\s|R?"\s*")+')
 # How far back something is looked for.
 NEAR = 5000
-# A brace that isn't of a function.
-OUTER = re.compile(r'(?:\bnamespace\b[^;{}()]*|\bextern\s*"[^"]*")\s*\Z')
-NAKED = re.compile(r"\b(?:__)?naked(?:__)?\b[^;{}]*\Z")
+# A brace that isn't of a function, or of one whose whole code is assembly.
+OUTER = re.compile(r'(?:\bnamespace\b[^;{}()]*|\bextern\s*"[^"]*"\s*|\b(?:__)?naked(?:__)?\b[^;{}]*)\Z')
 
 
 class Source:
-    """A preprocessed source; and the same without what stands in its strings and in its directives."""
+    """A preprocessed source without what stands in its strings and in its directives, whose brackets are read from its
+    start on."""
 
     def __init__(self, text: str) -> None:
-        self.text = text
         self.bare = DIRECTIVE.sub(lambda line: " " * len(line[0]), blanked(text))
-        self.brackets: list[Token] = []
-        self.places: list[int] = []
+        # The brackets that stand open up to here; and where each of the others was opened.
+        self.read, self.open = 0, list[int]()
+        self.openings: dict[int, int] = {}
 
-    def before(self, at: int) -> int:
-        """The index of the last bracket before this place, or -1."""
-        if not self.brackets:
-            self.brackets = [
-                Token("mark", found[0], found.start(), "", 0, False) for found in BRACKET.finditer(self.bare)
-            ]
-            match_brackets(self.brackets)
-            self.places = [bracket.start for bracket in self.brackets]
-        return bisect_left(self.places, at) - 1
+    def read_to(self, end: int) -> None:
+        for found in BRACKET.finditer(self.bare, self.read, end):
+            if found[0] not in PARTNERS:
+                self.open.append(found.start())
+            elif self.open and self.bare[self.open[-1]] == PARTNERS[found[0]]:
+                self.openings[found.start()] = self.open.pop()
+        self.read = end
 
-    def around(self, at: int) -> Iterator[Token]:
-        """The brackets that stand open at a place, the innermost first."""
-        last = self.before(at)
-        if last >= 0 and self.brackets[last].text in "([{":
-            yield self.brackets[last]
-        last = self.brackets[last].around if last >= 0 else None
-        while last is not None:
-            yield self.brackets[last]
-            last = self.brackets[last].around
-
-    def opening(self, closing: int) -> int:
-        """The place of the bracket that the one at this place closes."""
-        at = self.before(closing + 1)
-        bracket = self.brackets[at]
-        return bracket.start if bracket.partner is None else int(self.brackets[bracket.partner].start)
-
-    def is_in_function(self, at: int) -> bool:
+    def is_in_function(self) -> bool:
         """Whether a statement may stand here: in a function, other than one whose whole code is assembly."""
-        starts = [bracket.start for bracket in self.around(at) if bracket.text == "{"]
-        return any(
-            not OUTER.search(self.bare, max(start - NEAR, 0), start)
-            and not NAKED.search(self.bare, max(start - NEAR, 0), start)
-            for start in starts
-        )
+        braces = (at for at in self.open if self.bare[at] == "{")
+        return any(not OUTER.search(self.bare, max(at - NEAR, 0), at) for at in braces)
 
     def begins_statement(self, at: int) -> bool:
         """Whether what stands here is a statement, and no name that a declaration gives."""
         before = self.bare[max(at - NEAR, 0) : at].rstrip()
-        closing = max(at - NEAR, 0) + len(before) - 1
         if not before.endswith(")"):
             return bool(BEFORE_STATEMENT.search(before))
-        opening = self.opening(closing)
+        closing = max(at - NEAR, 0) + len(before) - 1
+        opening = self.openings.get(closing, closing)
         word = WORD_BEFORE.search(self.bare, max(opening - NEAR, 0), opening)
         if word and word[1].startswith("__attribute"):
             return self.begins_statement(word.start())
         return word is not None and (word[1] in CONTROLS or word[1] == "constexpr")
 
 
-def template(source: Source, first: int, end: int) -> str:
-    """What stands in these brackets, if it is strings alone; otherwise a null pointer."""
-    return source.text[first:end] if STRINGS.fullmatch(source.bare, first, end) else "0"
-
-
 def outside(text: str) -> str:
-    """The source with what tells of such assembly."""
-    source, files, found = Source(text), Files(text), []
-    for match in ASM.finditer(source.bare):
-        end = after_bracket(source.bare, match.end() - 1)
-        if (
-            end is not None
-            and (match[1] or source.begins_statement(match.start()))
-            and not source.is_in_function(match.start())
-        ):
-            found.append(("{}:{}".format(*files.place(match.start())), template(source, match.end(), end - 1)))
-    return text + "".join(told(number, *each) for number, each in enumerate(found))
-
-
-def told(number: int, place: str, text: str) -> str:
-    """What says where assembly stands, of which no call is known."""
-    return (
-        f"\n__attribute__((__constructor__)) static void __spbags_asm_of_{number}(void) {{ "
-        f'__spbags_asm_outside("{place}", __extension__({text})); }}\n'
-    )
+    """The source with what tells of such assembly: its place, and its text if that is strings alone."""
+    source, files, told = Source(text), Files(text), list[str]()
+    for found in ASM.finditer(source.bare):
+        source.read_to(found.start())
+        end = after_bracket(source.bare, found.end() - 1)
+        if end and (found[1] or source.begins_statement(found.start())) and not source.is_in_function():
+            given = text[found.end() : end - 1] if STRINGS.fullmatch(source.bare, found.end(), end - 1) else "0"
+            told.append(
+                f"\n__attribute__((__constructor__)) static void __spbags_asm_of_{len(told)}(void) {{ "
+                f'__spbags_asm_outside("{":".join(map(str, files.place(found.start())))}", __extension__({given})); }}\n'
+            )
+    return text + "".join(told)

@@ -7,7 +7,7 @@ from collections.abc import Iterator
 
 from compile.line_markers import Files, has_raw_strings
 from installation import is_own
-from tokens import BRACKET, PARTNERS, after_bracket, blanked
+from tokens import BRACKET, PARTNERS, after_bracket, blanked, replaced
 
 # A function that spawns and is put into its caller would have no end to sync at.
 INLINED = {"always_inline", "__always_inline__"}
@@ -19,6 +19,8 @@ UNSEEN = {
 }
 STEM = re.compile("always_inline|no_sanitize|disable_sanitizer_instrumentation")
 WORD = re.compile(r"(?<![\w$])[\w$]+")
+# What begins an attribute, and its arguments.
+BEFORE, OPENING = re.compile(r"(?:\[\s*\[|__attribute(?:__)?\s*\(\s*\()\Z"), re.compile(r"\s*\(")
 # How far back the attribute may begin.
 NEAR = 5000
 
@@ -31,14 +33,12 @@ FROM_PRAGMA = re.compile(
 
 def without_pragmas(text: str) -> str:
     """The source in which no pragma gives such an attribute, but one that does nothing."""
-    made, done = [], 0
-    for found in PRAGMA.finditer(blanked(text)) if PRAGMA.search(text) else ():
-        pragma = FROM_PRAGMA.sub(
-            lambda name: ("clang::" if name[1] else "") + 'annotate("")', text[found.start() : found.end()]
-        )
-        made += [text[done : found.start()], pragma]
-        done = found.end()
-    return "".join(made) + text[done:]
+    found = PRAGMA.finditer(blanked(text)) if PRAGMA.search(text) else ()
+    return replaced(text, ((*one.span(), FROM_PRAGMA.sub(annotation, text[one.start() : one.end()])) for one in found))
+
+
+def annotation(name: re.Match[str]) -> str:
+    return ("clang::" if name[1] else "") + 'annotate("")'
 
 
 def opening_around(bare: str, at: int) -> int | None:
@@ -57,26 +57,16 @@ def opening_around(bare: str, at: int) -> int | None:
 def is_in_attribute(bare: str, at: int) -> bool:
     """Whether this stands in `__attribute__((..))` or `[[..]]`."""
     opening = opening_around(bare, at)
-    if opening is None:
-        return False
-    before = bare[max(opening - NEAR, 0) : opening].rstrip()
-    return (
-        before.endswith("[")
-        and bare[opening] == "["
-        or before.endswith("(")
-        and bare[opening] == "("
-        and before[:-1].rstrip().endswith(("__attribute__", "__attribute"))
-    )
+    return opening is not None and BEFORE.search(bare, max(opening - NEAR, 0), opening + 1) is not None
 
 
 def end_of_arguments(bare: str, at: int) -> int:
     """The end of the brackets behind a word that ends here, if there are any."""
-    opening = at + len(bare[at : at + NEAR]) - len(bare[at : at + NEAR].lstrip())
-    return after_bracket(bare, opening) or at if bare.startswith("(", opening) else at
+    opening = OPENING.match(bare, at)
+    return opening and after_bracket(bare, opening.end() - 1) or at
 
 
 def words_in(text: str) -> Iterator[re.Match[str]]:
-    """Each of these words."""
     for stem in STEM.finditer(text):
         word = WORD.match(text, stem.start()) or WORD.match(text, stem.start() - len("__"))
         if word and word[0] in INLINED | UNSEEN:
@@ -90,23 +80,19 @@ def near(text: str, at: int, is_whole: bool) -> tuple[str, int]:
 
 
 def without(text: str) -> str:
-    """The source without these attributes."""
-    text, made, done = without_pragmas(text), [], 0
-    files, is_whole = Files(text), has_raw_strings(text)
+    text = without_pragmas(text)
+    return replaced(text, attributes_of(text))
+
+
+def attributes_of(text: str) -> Iterator[tuple[int, int, str]]:
+    files, is_whole, done = Files(text), has_raw_strings(text), 0
     for found in words_in(text):
         file, is_system = files.at(found.start())
         is_inlined = found[0] in INLINED
-        if is_system if is_inlined else is_own(file):
+        if found.start() < done or (is_system if is_inlined else is_own(file)):
             continue
         bare, begin = near(text, found.start(), is_whole)
         at = found.start() - begin
-        if (
-            found.start() < done
-            or not bare.startswith(found[0], at)
-            or not is_inlined
-            and not is_in_attribute(bare, at)
-        ):
-            continue
-        made += [text[done : found.start()], "__unused__"]
-        done = found.end() if is_inlined else begin + end_of_arguments(bare, found.end() - begin)
-    return "".join(made) + text[done:]
+        if bare.startswith(found[0], at) and (is_inlined or is_in_attribute(bare, at)):
+            done = found.end() if is_inlined else begin + end_of_arguments(bare, found.end() - begin)
+            yield found.start(), done, "__unused__"

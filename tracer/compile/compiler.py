@@ -6,7 +6,7 @@ import os
 import sys
 
 import cache
-from compile.options import ASSEMBLY, IS_CPLUSPLUS, LANGUAGE, Words, fail, say
+from compile.options import ASSEMBLY, IS_CPLUSPLUS, LANGUAGE, Words, fail, say, text_of, write
 from compile.processes import answer, run
 from installation import HERE
 
@@ -22,8 +22,8 @@ PLAIN = "-g -gdwarf-4 -fno-inline -fno-omit-frame-pointer -fno-optimize-sibling-
 ALIGNED, ALIGNED_CLANG = "-Wa,-mbranches-within-32B-boundaries", "-mbranches-within-32B-boundaries"
 # Each variable keeps memory of its own, and arguments on the stack are pushed for each call. What the plugin puts there
 # calls hooks, which gcc doesn't know: so nothing is kept below the stack's end, and that moves right before a call
-# alone.
-STACK_GCC = "-mno-accumulate-outgoing-args -mno-red-zone -fno-combine-stack-adjustments -fno-defer-pop"
+# alone. Each function keeps code of its own, too.
+STACK_GCC = "-fno-ipa-icf -mno-accumulate-outgoing-args -mno-red-zone -fno-combine-stack-adjustments -fno-defer-pop"
 TRACED_GCC = [*PLAIN, "-fstack-reuse=none", *STACK_GCC.split()]
 TRACED_CLANG = [*PLAIN, "-mllvm", "-no-stack-coloring", "-Qunused-arguments"]
 COMPILERS = [["g++"], ["clang++"]] if IS_CPLUSPLUS else [["gcc"], ["clang"]]
@@ -78,8 +78,7 @@ class Compiler:
         command += [*self.words.openmp, self.words.level, "-U_FORTIFY_SOURCE", *dependencies]
         command += ["-x", LANGUAGE] if self.words.named_language else []
         run(*command, source, "-o", text_name)
-        with open(text_name, encoding="utf-8", errors="surrogateescape") as file:
-            return file.read()
+        return text_of(text_name)
 
     def compile(self, source: str, object_name: str | None, folder: str) -> None:
         """Rewrites a source and compiles it. One in the assembler's language stays as it is."""
@@ -97,8 +96,7 @@ class Compiler:
         if faults:
             print("\n".join(faults), file=sys.stderr)
             sys.exit(1)
-        with open(text_name, "w", encoding="utf-8", errors="surrogateescape") as file:
-            file.write(text + MARKED)
+        write(text_name, text + MARKED)
         openmp = ["-fopenmp"] if steps.has_tasks(text) else self.words.openmp
         self.compile_rewritten(text_name, openmp, self.words.ends_with or "-c", object_name, folder)
 

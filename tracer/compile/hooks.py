@@ -8,8 +8,9 @@ import re
 import cache
 from compile import link_inputs
 from compile.compiler import Compiler
-from compile.options import TRACE, fail
+from compile.options import TRACE, fail, write
 from compile.processes import run, start, status_of
+from elf import HOOKS
 from installation import ARCHIVE, CRATES, HERE, IS_INSTALLED
 
 # What the hooks define in place of the library.
@@ -69,16 +70,8 @@ class Hooks:
 
     def compile_source(self, name: str) -> str:
         made = os.path.join(self.folder, name.replace("/", "-") + ".o")
-        run(
-            *self.compiler.command,
-            *self.flags,
-            f"-I{self.folder}",
-            f"-I{HERE}/hooks",
-            "-c",
-            os.path.join(HERE, name),
-            "-o",
-            made,
-        )
+        command = [*self.compiler.command, *self.flags, f"-I{self.folder}", f"-I{HERE}/hooks", "-c"]
+        run(*command, os.path.join(HERE, name), "-o", made)
         return made
 
     def compile(self) -> str:
@@ -88,8 +81,7 @@ class Hooks:
 
         table = library.Table()
         for name, text in (("library_names.h", table.declarations()), ("library_wrappers.h", table.wrappers())):
-            with open(os.path.join(self.folder, name), "w", encoding="utf-8") as file:
-                file.write(text)
+            write(os.path.join(self.folder, name), text)
         names = [name for name in files_of_hooks() if name.endswith(".c")]
         if not self.words.openmp:
             names = [name for name in names if not name.startswith("hooks/openmp/")]
@@ -106,14 +98,13 @@ class Hooks:
             *[f"--weaken-symbol=__wrap_{name}" for name in link_inputs.GIVES_CODE],
             *[f"--localize-symbol={name}" for name in sorted(inner)],
             *[f"--redefine-sym={name}=__real_{name}" for name in ("memcpy", "memmove", "memset")],
-            *[f"--rename-section=.text{part}=spbags_hooks" for part in ("", ".unlikely", ".startup", ".exit")],
+            *[f"--rename-section=.text{part}={HOOKS}" for part in ("", ".unlikely", ".startup", ".exit")],
             made,
         )
         return made
 
     @functools.cached_property
     def names(self) -> set[str]:
-        """What the hooks define."""
         return link_inputs.names_of(self.object)
 
     @functools.cached_property

@@ -49,18 +49,12 @@ class Function:
 
     def notes(self, name: str, after: bool) -> list[str]:
         """The block of the hooks' calls before the function, or after it."""
-        made = [
-            note_of(kind, item, "__wrap_" + name)
-            for kind, items in (("READ", self.reads), ("WRITE", self.writes))
-            for item in items
-            if not item[0].startswith(LOCK) and is_after(item) == after
-        ]
+        both = [("READ", item) for item in self.reads] + [("WRITE", item) for item in self.writes]
+        wanted = ((kind, item) for kind, item in both if not item[0].startswith(LOCK) and is_after(item) == after)
+        made = [note_of(kind, item, "__wrap_" + name) for kind, item in wanted]
         if made and self.lock:
-            made = [
-                f'guards_enter((uintptr_t)state({self.lock}), "the lock of {self.lock}");',
-                *made,
-                f"guards_leave((uintptr_t)state({self.lock}));",
-            ]
+            state = f"(uintptr_t)state({self.lock})"
+            made = [f'guards_enter({state}, "the lock of {self.lock}");', *made, f"guards_leave({state});"]
         return ["    if (doing.tracing) {", *("        " + note for note in made), "    }"] if made else []
 
     def takes_list(self) -> bool:
@@ -83,19 +77,8 @@ class Function:
         call, answer = f"__real_{real}({', '.join(arguments)});", []
         if self.result != "void":
             call, answer = f"{self.result} result = {call}", ["    return result;"]
-        return "\n".join(
-            [
-                self.declared("__wrap_" + name) + " {",
-                *begin,
-                *self.notes(name, False),
-                "    " + call,
-                *self.notes(name, True),
-                *end,
-                *answer,
-                "}",
-                "",
-            ]
-        )
+        before = [self.declared("__wrap_" + name) + " {", *begin, *self.notes(name, False)]
+        return "\n".join([*before, "    " + call, *self.notes(name, True), *end, *answer, "}", ""])
 
 
 def is_after(item: list[str]) -> bool:
@@ -166,13 +149,8 @@ class Section:
 def silent() -> set[str]:
     """The functions that touch no memory that the program shares."""
     with open(TABLE, encoding="utf-8") as file:
-        return {
-            name
-            for line in file
-            if line.startswith("+ ")
-            for word, _ in WORD.findall(line[2:])
-            for name in with_endings(word)
-        }
+        words = [word for line in file if line.startswith("+ ") for word, _ in WORD.findall(line[2:])]
+    return {name for word in words for name in with_endings(word)}
 
 
 class Table:

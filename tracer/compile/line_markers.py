@@ -32,7 +32,6 @@ class Files:
         return self.names[number], self.lines[number] + self.text.count("\n", self.starts[number], place) - 1
 
     def names_file(self, place: int) -> bool:
-        """Whether such a line begins here."""
         number = bisect_right(self.starts, place) - 1
         return number > 0 and self.starts[number] == place
 

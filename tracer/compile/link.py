@@ -7,7 +7,7 @@ import sys
 
 from compile import link_inputs
 from compile import shared_libraries
-from compile.options import NAME, TRACE, Words, fail, say
+from compile.options import NAME, TRACE, Words, fail, say, write
 from compile.compiler import COMPILERS, Compiler, named_compiler
 from compile.hooks import OWN, Hooks, detector_library
 from installation import ARCHIVE
@@ -60,8 +60,7 @@ class Link:
         if not unknown and not virtual:
             return []
         text, made = os.path.join(self.folder, "unknown.s"), os.path.join(self.folder, "unknown.o")
-        with open(text, "w", encoding="utf-8", errors="surrogateescape") as file:
-            file.write(link_inputs.stubs(unknown, virtual))
+        write(text, link_inputs.stubs(unknown, virtual))
         run("as", text, "-o", made)
         return [made, *["-Wl,--wrap=" + function.name for function in unknown]]
 
@@ -74,14 +73,10 @@ class Link:
             self.words.openmp = self.words.openmp or ["-fopenmp"]
         hooks = Hooks(self.compiler, self.folder)
         self.refuse(found, hooks)
-        own = [
-            *self.stubs(found, hooks),
-            *link_inputs.wrapping(found, hooks.wrapped, self.folder),
-            *items,
-            hooks.object,
-            *([hooks.detector(library), "-ldl", "-lpthread"] if library else []),
-        ]
-        status, said = heard([*self.command, "-no-pie", *own, "-o", self.output], 2)
+        own = [*self.stubs(found, hooks), *link_inputs.wrapping(found, hooks.wrapped, self.folder)]
+        detector = [hooks.detector(library), "-ldl", "-lpthread"] if library else []
+        link = [*self.command, "-no-pie", *own, *items, hooks.object, *detector]
+        status, said = heard([*link, "-o", self.output], 2)
         sys.stderr.write(said)
         explain(said)
         if status == 0 and parts is None:
@@ -141,27 +136,20 @@ def compile_hooks() -> None:
     from compile import plugin
 
     named = named_compiler()
-    forms: tuple[tuple[list[str], list[str]], ...] = (
-        ([], []),
-        ([], [TRACE]),
-        (["-fopenmp"], []),
-        (["-fopenmp"], [TRACE]),
-    )
     commands = [named] if named else [words for words in COMPILERS if shutil.which(words[0])]
-    for command, (options, more) in itertools.product(commands, forms):
-        compiler = Compiler(Words([*options, *more]), command)
+    for command, *form in itertools.product(commands, ("", "-fopenmp"), ("", TRACE)):
+        options = list(filter(None, form))
+        compiler = Compiler(Words(options), command)
         lacks = plugin.lacks(compiler.command, compiler.is_clang)
-        if lacks and compiler.is_clang and not named_compiler():
-            if not options and not more:
+        if lacks and compiler.is_clang and not named:
+            if not options:
                 say(lacks)
             continue
-        if options and not has_openmp(compiler):
+        if form[0] and not has_openmp(compiler):
             continue
         with Folder() as folder:
             hooks = Hooks(compiler, folder)
-            made = [hooks.object]
-            if not options and not more:
-                made.append(compiler.plugin(folder))
+            made = [hooks.object, *([] if options else [compiler.plugin(folder)])]
             if compiler.words.inside and os.path.exists(ARCHIVE):
                 made.append(hooks.detector(ARCHIVE))
             print(*made, sep="\n", flush=True)

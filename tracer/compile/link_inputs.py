@@ -8,12 +8,9 @@ from collections.abc import Iterable, Iterator
 from collections import namedtuple
 
 from compile.compiler import MARK
+from compile.options import write
 from compile.processes import answer, run
-from compile.symbols import CODE, UNDEFINED, WEAK_CODE, members_of, opened, symbols_of
-
-TYPE_CHECKING = False
-if TYPE_CHECKING:
-    from compile.symbols import Bytes
+from elf import CODE, UNDEFINED, WEAK_CODE, Bytes, members_of, opened, symbols_of
 
 # The libraries of the C compiler itself.
 SYSTEM = re.compile(
@@ -126,7 +123,6 @@ def is_in(file: str, folders: list[str]) -> bool:
 
 
 def names_of(object_name: str) -> set[str]:
-    """What an object defines."""
     return {name for name, kind in symbols_of(opened(object_name)) if kind != UNDEFINED}
 
 
@@ -142,8 +138,6 @@ def read_symbols(parts: dict[tuple[str, str | None], Part]) -> None:
 
 
 class Linked:
-    """The files of a link."""
-
     def __init__(self, parts: list[Part]) -> None:
         objects = [part for part in parts if not part.is_shared]
         self.traced = [part for part in objects if part.is_traced()]
@@ -205,12 +199,8 @@ class Linked:
     def virtual(self) -> list[str]:
         """The classes of virtual functions that nothing is known of, which a program may call without a name."""
         asked = {name for part in self.traced for name in part.wanted if name.startswith("_ZTV")}
-        tables = {
-            name
-            for part in [*self.others, *self.libraries]
-            if not part.is_system
-            for name in asked & part.defined.keys()
-        }
+        having = [part for part in [*self.others, *self.libraries] if not part.is_system]
+        tables = {name for part in having for name in asked & part.defined.keys()}
         return [name.removeprefix("vtable for ") for name in demangled(sorted(tables))]
 
 
@@ -227,13 +217,12 @@ def wrapping(found: Linked, names: list[str], folder: str) -> list[str]:
     own = {name for part in found.traced for name in part.defined}
     called = {name for part in [*found.traced, *found.others] if not part.is_system for name in part.wanted} - own
     text, made = os.path.join(folder, "called.s"), os.path.join(folder, "called.o")
-    with open(text, "w", encoding="utf-8", errors="surrogateescape") as file:
-        file.writelines(f"\t.globl __real_{name}\n" for name in names if name in called)
-        file.write('\t.section .note.GNU-stack,"",@progbits\n')
+    write(text, "".join(f"\t.globl __real_{name}\n" for name in names if name in called) + NO_STACK)
     run("as", "-o", made, text)
     return [made, *[f"-Wl,--defsym=__real_{name}={name}" if name in own else f"-Wl,--wrap={name}" for name in names]]
 
 
+NO_STACK = '\t.section .note.GNU-stack,"",@progbits\n'
 STUB = """\
 \t.globl __wrap_{name}
 \t.type __wrap_{name}, @function
@@ -263,18 +252,9 @@ def stubs(unknown: list[Unknown], virtual: list[str]) -> str:
         f'.Llibrary{at}: .string "{quoted(row.library)}"\n'
         for at, row in enumerate(table)
     ]
-    return "".join(
-        [
-            "\t.text\n",
-            *text,
-            "\t.data\n\t.balign 8\n\t.globl __spbags_unknown, __spbags_unknown_end\n",
-            "__spbags_unknown:\n",
-            *rows,
-            "__spbags_unknown_end:\n\t.section .rodata\n",
-            *names,
-            '\t.section .note.GNU-stack,"",@progbits\n',
-        ]
-    )
+    begin = "\t.data\n\t.balign 8\n\t.globl __spbags_unknown, __spbags_unknown_end\n__spbags_unknown:\n"
+    end = "__spbags_unknown_end:\n\t.section .rodata\n"
+    return "".join(["\t.text\n", *text, begin, *rows, end, *names, NO_STACK])
 
 
 def quoted(text: str) -> str:

@@ -7,14 +7,13 @@ from __future__ import annotations
 
 from collections.abc import Iterable
 
-from tokens import ASSIGNMENTS, CONTROLS, Refused, Token, is_in_block, outside, own_words, piece, statement_start
+from tokens import ASSIGNMENTS, CONTROLS, Construct, Refused, Token, is_in_block, outside, own_words, statement_start
 
 TYPE_CHECKING = False
 if TYPE_CHECKING:
-    from typing import Any, NoReturn
+    from typing import NoReturn
 
-    # What is put in place of tokens, by the first and the last; or behind one.
-    Edit = tuple[Any, ...]
+    from tokens import Edit
 
 # What stands before a block, and before the body of a function behind its parameters.
 BEFORE_BLOCKS = {"else", "do", "try", "_Cilk_scope"}
@@ -23,6 +22,10 @@ CYCLES, CHOICES = {"for", "while", "do", "_Cilk_for"}, {"switch"}
 COMPARISONS = {"<": ">", ">": "<", "<=": ">=", ">=": "<=", "!=": "!="}
 # What would end a comparison's side, since it binds less.
 LOOSER = ASSIGNMENTS | {"&&", "||", "?", ":", ",", "&", "^", "|", "==", "!="}
+# The parts of a loop's header; and what its variable may not be.
+PARTS = ("control variable initialization", "condition expression", "increment expression")
+NOT_AUTOMATIC = {"static", "extern", "register", "_Thread_local", "thread_local"}
+NOT_PLAIN = {"const", "volatile", "&", "&&"}
 OUTLINES = {"gcc": "#pragma omp task default(shared)", "clang": "#pragma clang __debug captured"}
 # In C++, what keeps the exceptions of children until their parent waits for them.
 KEEPS = "__spbags_frame __spbags_here;"
@@ -144,11 +147,8 @@ def check_entries(tokens: list[Token], first: int, last: int, what: str) -> None
         raise Refused(tokens[first], f"cannot jump into a '{what}'")
     choices = [(at, statement_end(tokens, at)) for at in range(first, last) if tokens[at].text == "switch"]
     for at in range(first, last):
-        if (
-            tokens[at].text in ("case", "default")
-            and tokens[at - 1].text in ("{", "}", ";", ":")
-            and not is_in_inner(tokens, at, first, choices)
-        ):
+        is_label = tokens[at].text in ("case", "default") and tokens[at - 1].text in ("{", "}", ";", ":")
+        if is_label and not is_in_inner(tokens, at, first, choices):
             raise Refused(tokens[at], f"cannot jump into a '{what}'")
 
 
@@ -166,18 +166,18 @@ def check_exits(tokens: list[Token], first: int, last: int) -> None:
             raise Refused(tokens[at], "cannot jump out of a 'cilk_for' loop")
 
 
-class Loop:
+class Loop(Construct):
     """A loop: its variable, the end that this is compared with, and the step."""
 
     def __init__(self, text: str, tokens: list[Token], at: int, language: str, waiting: set[int]) -> None:
-        self.text, self.tokens, self.at, self.language, self.waiting = text, tokens, at, language, waiting
+        super().__init__(text, tokens, at)
+        self.language, self.waiting = language, waiting
         self.opening = at + 1
         self.closing = tokens[self.opening].partner
         if tokens[self.opening].text != "(" or self.closing is None:
             raise Refused(tokens[at], "expected '(' after 'cilk_for'")
         if not is_in_block(tokens, at):
             raise Refused(tokens[at], "a cilk_for can't be traced here: put it into a block")
-        self.here = tokens[at].marker(" 3")
         declaration, condition, increment = self.parts()
         self.declare(*declaration)
         self.compare(*condition)
@@ -187,7 +187,7 @@ class Loop:
         check_entries(tokens, self.first, self.last, "cilk_for")
 
     def refuse(self, why: str) -> NoReturn:
-        raise Refused(self.tokens[self.at], f"{why} in 'cilk_for'")
+        super().refuse(f"{why} in 'cilk_for'")
 
     def direct(self, first: int, end: int) -> set[str]:
         """Those of these tokens that stand in no brackets, and in no template's arguments."""
@@ -195,26 +195,18 @@ class Loop:
 
     def parts(self) -> list[tuple[int, int]]:
         """The three parts of the header, each from its first token to the one behind its last."""
-        marks = [
-            at
-            for at in range(self.opening, self.closing)
-            if self.tokens[at].text == ";" and self.tokens[at].around == self.opening
-        ]
+        header = range(self.opening, self.closing)
+        marks = [at for at in header if self.tokens[at].text == ";" and self.tokens[at].around == self.opening]
         if any(token.text.startswith("_Cilk_") for token in self.tokens[self.opening : self.closing]):
             self.refuse("no keyword of Cilk may stand in the header")
         if len(marks) != 2:
             self.refuse("expected an initialization, a condition and an increment")
         ends = [self.opening, *marks, self.closing]
-        for first, end, what in zip(
-            ends, ends[1:], ("control variable initialization", "condition expression", "increment expression")
-        ):
-            if first + 1 == end:
+        parts = [(first + 1, end) for first, end in zip(ends, ends[1:])]
+        for (first, end), what in zip(parts, PARTS):
+            if first == end:
                 self.refuse(f"missing loop {what}")
-        return [(first + 1, end) for first, end in zip(ends, ends[1:])]
-
-    def piece(self, first: int, end: int) -> str:
-        """A piece of the program, on its own lines; what follows is on the loop's."""
-        return piece(self.text, self.tokens[first], self.tokens[end - 1]) + self.here
+        return parts
 
     def declare(self, first: int, end: int) -> None:
         sign = next((at for at in outside(self.tokens, first, end) if self.tokens[at].text == "="), None)
@@ -227,15 +219,10 @@ class Loop:
         if sign - 1 == first or (self.tokens[first].text == "*"):
             self.refuse("the loop control variable has to be declared")
         own = {token.text for token in own_words(self.tokens, first, sign)}
-        if self.direct(first, sign) & {"static", "extern", "register", "_Thread_local", "thread_local"} or own & {
-            "const",
-            "volatile",
-            "&",
-            "&&",
-        }:
+        if self.direct(first, sign) & NOT_AUTOMATIC or own & NOT_PLAIN:
             self.refuse("loop control variable must be a plain automatic variable")
         self.name = self.tokens[sign - 1].text
-        self.declaration = self.piece(first, end)
+        self.declaration = self.piece(first, end - 1)
 
     def compare(self, first: int, end: int) -> None:
         if not any(token.text in COMPARISONS for token in self.tokens[first:end]):
@@ -254,7 +241,7 @@ class Loop:
             self.refuse("loop condition has to be one comparison")
         if any(token.text == self.name for token in self.tokens[limit[0] : limit[1]]):
             self.refuse(f"loop condition may name control variable '{self.name}' only once")
-        self.limit = self.piece(*limit)
+        self.limit = self.piece(limit[0], limit[1] - 1)
 
     def move(self, first: int, end: int) -> None:
         texts = [token.text for token in self.tokens[first:end]]
@@ -263,7 +250,7 @@ class Loop:
             self.operator, self.moved = texts[texts[0] == self.name], "".join(texts)
         elif texts[0] == self.name and texts[1] in ("+=", "-="):
             self.operator, self.moved = texts[1], f"{self.name}{texts[1]} __spbags_step"
-            self.step = self.piece(first + 2, end)
+            self.step = self.piece(first + 2, end - 1)
             if self.direct(first + 2, end) & {",", "=", "+=", "-="} or self.name in texts[2:]:
                 self.refuse(f"loop increment has to be one assignment, whose step doesn't name '{self.name}',")
         elif self.name in texts:

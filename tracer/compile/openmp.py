@@ -3,6 +3,7 @@ for each iteration. What can't be traced is refused, with its file and line."""
 from __future__ import annotations
 
 import functools
+import itertools
 import re
 from collections.abc import Iterator
 
@@ -27,68 +28,37 @@ STATIC = re.compile(r"schedule\s*\((?:[\w\s,]*:)?\s*static\b")
 LOOPS_LENGTH = 2000
 
 # The words that a directive begins with; those that have more here can't be traced, and are called so.
+TRACED = (
+    "parallel for simd sections single master masked task taskloop taskwait section ordered declare begin end cancel "
+    "cancellation depobj"
+)
 DIRECTIVES: dict[str, str | None] = {
-    **dict.fromkeys(
-        (
-            "parallel",
-            "for",
-            "simd",
-            "sections",
-            "single",
-            "master",
-            "masked",
-            "task",
-            "taskloop",
-            "taskwait",
-            "section",
-            "ordered",
-            "declare",
-            "begin",
-            "end",
-            "cancel",
-            "cancellation",
-            "depobj",
-        )
-    ),
-    "target": "target",
-    "teams": "teams",
-    "distribute": "distribute",
+    **dict.fromkeys(TRACED.split()),
+    **{name: name for name in "target teams distribute allocate scan metadirective dispatch interop".split()},
     "loop": "loop (write `for')",
-    "allocate": "allocate",
     "allocators": "allocate",
-    "scan": "scan",
-    "metadirective": "metadirective",
-    "dispatch": "dispatch",
-    "interop": "interop",
 }
 # The number of a body's kind in the hooks, by the last word of its directive.
 BODIES = {"parallel": 0, "single": 1, "master": 2, "masked": 2}
 SIMD_BODY, SECTION_BODY, LAST_BODY, SCOPE_BODY, SCOPE_NOWAIT_BODY, SCOPED_BODY = range(3, 9)
 MAKES_PARALLEL = {"parallel", "task", "taskloop"}
 PRIVATE = {"private", "firstprivate", "lastprivate", "reduction"}
-REFUSED_CLAUSES = {"detach": "detach", "allocate": "allocate"}
+REFUSED_CLAUSES = {"detach", "allocate"}
 
 
 def clauses_of(text: str) -> list[Clause]:
     """The clauses of a directive, each with its name, its text, and where both stand in the whole."""
     found: list[Clause] = []
     bare, at = LITERAL.sub(lambda literal: " " * len(literal[0]), text), 0
-    while True:
-        word = CLAUSE.search(bare, at)
-        if not word:
-            return found
+    while word := CLAUSE.search(bare, at):
         at = (after_bracket(bare, word.end() - 1) or len(text)) if word[2] else word.end()
         found.append((word[1], word.start(), at))
+    return found
 
 
 def leading(clauses: list[Clause]) -> list[str]:
     """The words of the directive itself."""
-    names = []
-    for name, _, _ in clauses:
-        if name not in DIRECTIVES:
-            break
-        names.append(name)
-    return names
+    return list(itertools.takewhile(DIRECTIVES.__contains__, (name for name, _, _ in clauses)))
 
 
 def refusal(text: str) -> str | None:
@@ -102,7 +72,7 @@ def refusal(text: str) -> str | None:
         return "depend"
     for name, start, end in clauses[len(names) :]:
         if name in REFUSED_CLAUSES:
-            return REFUSED_CLAUSES[name]
+            return name
         if re.match(r"reduction\s*\(\s*inscan\b", text[start:end]):
             return "scan"
     return None
@@ -118,11 +88,8 @@ def without(text: str, clause: str) -> tuple[str, str]:
 
 def filtered(text: str) -> str:
     """A directive that says to the hooks which thread a masked region is for."""
-    for name, start, end in clauses_of(text):
-        if name == "filter":
-            number = text[start:end].partition("(")[2][:-1]
-            return f"{text[:start]}filter(__spbags_filter({number})){text[end:]}"
-    return text
+    _, clause = without(text, "filter")
+    return text.replace(clause, f"filter(__spbags_filter({clause.partition('(')[2]})") if clause else text
 
 
 def rescheduled(text: str) -> str:
@@ -163,7 +130,6 @@ class Source:
 
     @functools.cached_property
     def bare(self) -> str:
-        """The text without what is in strings."""
         return blanked(self.text)
 
     def matched(self, pattern: re.Pattern[str], start: int) -> re.Match[str] | None:
@@ -175,7 +141,6 @@ class Source:
         self.faults.append(f"{self.file}:{self.line}: error: {why}")
 
     def directive(self, text: str, end: int) -> str:
-        """What stands for a directive, whose line ends here."""
         why = refusal(text) or self.refused_nest(text, end)
         if why:
             self.refuse(f"OpenMP's {why} can't be traced: #pragma omp{text}")
@@ -261,7 +226,6 @@ class Source:
         return start
 
     def rewritten_line(self, start: int, end: int) -> str:
-        """What stands for a line."""
         line = self.text[start:end]
         if self.files.names_file(start):
             return line

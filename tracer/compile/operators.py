@@ -13,8 +13,7 @@ if TYPE_CHECKING:
     from typing import Any
 
     from compile.spawns_cplusplus import Postfix
-
-    Edit = tuple[Any, ...]
+    from tokens import Edit
 
 # Those that are grouped from the left, the loosest first.
 LEVELS = [level.split() for level in "||, &&, |, ^, &, == !=, < > <= >=, <=>, << >>, + -, * / %".split(",")]
@@ -92,12 +91,8 @@ class Operation:
         self.tokens, self.end = tokens, end
         self.sign: Any
         self.form, self.sign = self.form_of(postfix)
-        if (
-            self.sign is None
-            or postfix.call is not None
-            or tokens[self.sign + 1].text == "{"
-            or tokens[postfix.first].text in CONTROLS | {"{"}
-        ):
+        is_none = postfix.call is not None or tokens[postfix.first].text in CONTROLS | {"{"}
+        if self.sign is not None and (is_none or tokens[self.sign + 1].text == "{"):
             self.sign = None
         self.is_assignment = self.sign is not None and tokens[self.sign].text in ASSIGNMENTS
 

@@ -37,8 +37,16 @@ DROPPED_FILES = re.compile(r"lib(?:gomp|omp|iomp5)\.(?:a|so\b.*)")
 WITH_VALUE = set(
     "-I -D -U -include -imacros -isystem -iquote -idirafter -Xpreprocessor -Xclang -mllvm --param -arch -target".split()
 )
-LINK_WITH_VALUE = {"-L", "-l", "-Xlinker", "-T", "-u", "-z", "-e"}
-DEPENDENCIES_WITH_VALUE = {"-MF", "-MT", "-MQ"}
+LINK_VALUE, DEPENDENCY_VALUE = set("-L -l -Xlinker -T -u -z -e".split()), {"-MF", "-MT", "-MQ"}
+# Options that only say something.
+FLAGS = {
+    TRACE: ("inside", False),
+    NO_INLINE_CHECKS: ("inline_checks", False),
+    STEPS: ("shows_steps", True),
+    "-shared": ("shared", True),
+    "--shared": ("shared", True),
+    "-r": ("relocatable", True),
+}
 CPLUSPLUS = (".cc", ".cpp", ".cxx", ".c++", ".C", ".CPP", ".ii", ".hpp")
 ASSEMBLY = (".s", ".S", ".sx")
 OBJECTS = (".o", ".a", ".so", ".lo", ".obj")
@@ -54,8 +62,6 @@ def fail(message: str, status: int = 1) -> NoReturn:
 
 
 class Words:
-    """The words of the command line, each where it belongs."""
-
     def __init__(self, words: Iterable[str]) -> None:
         self.compiling: list[str] = []
         self.linking: list[str] = []
@@ -70,14 +76,12 @@ class Words:
         # Whether a file is named, and whether the compiler itself takes them all.
         self.names_files = self.plain = False
         self.named_language: str | None = None
+        with_value = ((WITH_VALUE, self.compiling), (LINK_VALUE, self.linking), (DEPENDENCY_VALUE, self.dependencies))
         rest = iter(words)
         for word in rest:
-            if word in WITH_VALUE:
-                self.compiling += [word, self.value(word, rest)]
-            elif word in LINK_WITH_VALUE:
-                self.linking += [word, self.value(word, rest)]
-            elif word in DEPENDENCIES_WITH_VALUE:
-                self.dependencies += [word, self.value(word, rest)]
+            kept = next((kept for words, kept in with_value if word in words), None)
+            if kept is not None:
+                kept += [word, self.value(word, rest)]
             elif word == "-o":
                 self.output = self.value(word, rest)
             elif word == "-x":
@@ -101,22 +105,14 @@ class Words:
     def option(self, word: str) -> None:
         if word in ENDINGS:
             self.ends_with = word
-        elif word == TRACE:
-            self.inside = False
-        elif word == NO_INLINE_CHECKS:
-            self.inline_checks = False
-        elif word == STEPS:
-            self.shows_steps = True
+        elif word in FLAGS:
+            setattr(self, *FLAGS[word])
         elif word == "-":
             self.file(word)
         elif word.startswith("-x"):
             self.language(word[2:])
         elif word.startswith("-fopenmp") and not word.startswith(("-fopenmp-simd", "-fopenmp-version")):
             self.openmp = ["-fopenmp", "-Domp_get_thread_num=__spbags_thread_num", "-Wno-misleading-indentation"]
-        elif word in ("-shared", "--shared"):
-            self.shared = True
-        elif word == "-r":
-            self.relocatable = True
         elif word.startswith(DROPPED) or word in DROPPED_WORDS:
             if word.startswith("-O"):
                 self.level = "-O0" if word == "-O0" else "-O1"
@@ -140,39 +136,33 @@ class Words:
         self.linking.append(name)
 
 
+def text_of(name: str) -> str:
+    with open(name, encoding="utf-8", errors="surrogateescape") as file:
+        return file.read()
+
+
+def write(name: str, text: str) -> None:
+    with open(name, "w", encoding="utf-8", errors="surrogateescape") as file:
+        file.write(text)
+
+
+QUOTED = re.compile(r"""\"((?:\\.|[^\"\\])*)\"?|'((?:\\.|[^'\\])*)'?|\\(.?)""", re.DOTALL)
+WORD = re.compile(rf"(?:{QUOTED.pattern}|[^\s\"'\\])+", re.DOTALL)
+
+
 def expanded(words: Iterable[str]) -> Iterator[str]:
     """The words, with those of a file in place of @file, as the compiler takes them."""
     for word in words:
         try:
-            with open(
-                word[1:] if word.startswith("@") else os.devnull, encoding="utf-8", errors="surrogateescape"
-            ) as file:
-                text = file.read() if word.startswith("@") else None
+            yield from expanded(words_of(text_of(word[1:]))) if word.startswith("@") else [word]
         except OSError:
-            text = None
-        if text is None:
             yield word
-        else:
-            yield from expanded(words_of(text))
 
 
 def words_of(text: str) -> list[str]:
     """The words of a text: quotes hold spaces, and a backslash any letter."""
-    found: list[str] = []
-    quote, letters, inside = None, iter(text), False
-    for letter in letters:
-        if quote is None and letter.isspace():
-            inside = False
-            continue
-        if not inside:
-            found.append("")
-            inside = True
-        if letter == "\\":
-            found[-1] += next(letters, "")
-        elif letter == quote:
-            quote = None
-        elif quote is None and letter in "'\"":
-            quote = letter
-        else:
-            found[-1] += letter
-    return found
+
+    def plain(found: re.Match[str]) -> str:
+        return re.sub(r"\\(.)", r"\1", found[1] or found[2] or "", flags=re.DOTALL) or found[3] or ""
+
+    return [QUOTED.sub(plain, word[0]) for word in WORD.finditer(text)]

@@ -5,7 +5,7 @@ from __future__ import annotations
 import re
 
 from compile.line_markers import Files
-from tokens import Token, arguments_of, blanked, is_in_block, statement_start, tokens_of
+from tokens import Token, arguments_of, blanked, is_in_block, replaced, statement_start, tokens_of
 
 CALL = re.compile(
     r"\b(?:parallel_(?:deterministic_)?reduce|parallel_scan|(?:transform_)?reduce|"
@@ -37,7 +37,6 @@ def is_scalar(words: list[str]) -> bool:
 
 
 def is_number(tokens: list[Token], first: int, last: int) -> bool:
-    """Whether this parameter, with or without a name, is one."""
     words = [token.text for token in tokens[first:last] if token.text not in NO_TYPES]
     return words == ["auto"] or is_scalar(words)
 
@@ -81,7 +80,8 @@ def is_plain_body(tokens: list[Token], opening: int) -> bool:
 
 def takes_address(tokens: list[Token], at: int) -> bool:
     before = tokens[at - 1]
-    return tokens[at].text == "&" and before.kind == "mark" and before.text not in (")", "]")
+    is_operator = before.text == "return" or before.kind == "mark" and before.text not in (")", "]")
+    return tokens[at].text == "&" and is_operator
 
 
 def is_plain_lambda(tokens: list[Token], first: int, last: int) -> bool:
@@ -89,30 +89,22 @@ def is_plain_lambda(tokens: list[Token], first: int, last: int) -> bool:
         return False
     opening = first + 2
     body = tokens[opening].partner + 1
-    return (
-        all(is_number(tokens, *each) for each in arguments_of(tokens, opening))
-        and is_plain_body(tokens, opening)
-        and tokens[last].text == "}"
-        and not any(
-            takes_address(tokens, at) or tokens[at].text == "return" and tokens[at + 1].text == "&"
-            for at in range(body, last)
-        )
-    )
+    has_numbers = all(is_number(tokens, *each) for each in arguments_of(tokens, opening))
+    is_plain = has_numbers and is_plain_body(tokens, opening) and tokens[last].text == "}"
+    return is_plain and not any(takes_address(tokens, at) for at in range(body, last))
 
 
 def rewritten(text: str) -> str:
     start = first_call(text) if HEADER.search(text) else None
     if start is None:
         return text
-    tokens = tokens_of(text[start:])
-    openings = {match.end() - 1 - start for match in CALL.finditer(text, start)}
-    made, done = [text[:start]], start
-    for at, token in enumerate(tokens):
-        if token.start not in openings or token.partner is None:
-            continue
-        for first, last in arguments_of(tokens, at):
-            if is_plain_lambda(tokens, first, last):
-                begin, end = start + tokens[first].start, start + tokens[last].end
-                made += [text[done:begin], "::spbags::plain(", text[begin:end], ")"]
-                done = end
-    return "".join(made) + text[done:]
+    own = text[start:]
+    tokens, openings = tokens_of(own), {match.end() - 1 for match in CALL.finditer(own)}
+    calls = (at for at, token in enumerate(tokens) if token.start in openings and token.partner is not None)
+    lambdas = [
+        (tokens[first].start, tokens[last].end)
+        for at in calls
+        for first, last in arguments_of(tokens, at)
+        if is_plain_lambda(tokens, first, last)
+    ]
+    return text[:start] + replaced(own, ((*place, f"::spbags::plain({own[slice(*place)]})") for place in lambdas))

@@ -6,7 +6,7 @@ import os
 import re
 
 import cache
-from compile.options import fail
+from compile.options import fail, write
 from compile.processes import answer, run
 from installation import HERE
 
@@ -36,15 +36,10 @@ def lacks(compiler: list[str], is_clang: bool) -> str | None:
 
 def cplusplus_of(compiler: list[str]) -> str:
     """A compiler of C++, of the same version if there is one."""
+    import shutil
+
     name = re.sub(r"gcc(?=(-[\d.]+)?$)", "g++", re.sub(r"clang(?=(-[\d.]+)?$)", "clang++", compiler[0]))
-    return next((found for found in (name, "g++", "c++", "clang++") if is_there(found)), "g++")
-
-
-def is_there(compiler: str) -> bool:
-    try:
-        return answer(compiler, "--version")[0] == 0
-    except OSError:
-        return False
+    return next(filter(shutil.which, (name, "g++", "c++", "clang++")), "g++")
 
 
 def files_of(is_clang: bool, ending: str) -> list[str]:
@@ -66,8 +61,7 @@ def build(compiler: list[str], is_clang: bool, folder: str) -> str:
     if missing:
         fail(missing)
     whole, made = os.path.join(folder, "whole.cc"), os.path.join(folder, "spbags.so")
-    with open(whole, "w", encoding="utf-8") as file:
-        file.writelines(f'#include "{source}"\n' for source in files_of(is_clang, ".cc"))
+    write(whole, "".join(f'#include "{source}"\n' for source in files_of(is_clang, ".cc")))
     run(cplusplus_of(compiler), *FLAGS, "-isystem", headers_of(compiler, is_clang), "-shared", whole, "-o", made)
     return made
 

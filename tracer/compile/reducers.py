@@ -3,28 +3,26 @@ place of the keyword, which its plugin reads."""
 from __future__ import annotations
 
 import re
+from collections.abc import Iterator
 
-from tokens import after_bracket, blanked, tokens_of
+from tokens import after_bracket, blanked, replaced, tokens_of
 
 KEYWORD = re.compile(r"\b_Hyperobject\b(\s*\()?")
 
 
 def rewritten(text: str) -> str:
     """The source with the attribute, in which a call has the functions: in C++ it chooses among those of one name."""
-    bare, made, done = blanked(text), [], 0
+    return replaced(text, keywords_of(text, blanked(text)))
+
+
+def keywords_of(text: str, bare: str) -> Iterator[tuple[int, int, str]]:
     for found in KEYWORD.finditer(bare):
         end = found[1] and after_bracket(bare, found.end() - 1) or found.end()
         given = f"(__spbags_functions{text[found.end() - 1:end]})" if found[1] else ""
-        made += [text[done : found.start()], f"__attribute__((spbags_reducer{given}))"]
-        done = end
-    return "".join(made) + text[done:]
+        yield found.start(), end, f"__attribute__((spbags_reducer{given}))"
 
 
 def refused(text: str) -> list[str]:
     """A line for each reducer in a source that another compiler gets."""
-    tokens = tokens_of(text) if KEYWORD.search(text) else []
-    return [
-        f"{token.place()}: error: reducers can be traced only with gcc"
-        for token in tokens
-        if token.text == "_Hyperobject"
-    ]
+    keywords = (token for token in tokens_of(text) if token.text == "_Hyperobject") if KEYWORD.search(text) else ()
+    return [f"{token.place()}: error: reducers can be traced only with gcc" for token in keywords]

@@ -6,7 +6,7 @@ from __future__ import annotations
 import os
 
 from compile.link_inputs import Part
-from compile.options import fail
+from compile.options import fail, text_of, write
 from compile.processes import run
 
 OBJECTS, NEEDED = ".spbags_objects", ".spbags_needed"
@@ -23,8 +23,7 @@ def keep(library: str, parts: list[Part], folder: str) -> None:
                     file.write(text)
     archive, needed = os.path.join(folder, "objects.a"), os.path.join(folder, "needed")
     run("ar", "qc", archive, *names)
-    with open(needed, "w", encoding="utf-8", errors="surrogateescape") as file:
-        file.write("".join(os.path.abspath(part.file) + "\n" for part in parts if part.is_shared))
+    write(needed, "".join(os.path.abspath(part.file) + "\n" for part in parts if part.is_shared))
     run("objcopy", f"--add-section={OBJECTS}={archive}", f"--add-section={NEEDED}={needed}", library)
 
 
@@ -55,16 +54,10 @@ class Libraries:
         self.seen.add(real)
         archive = os.path.join(self.folder, f"{len(self.seen)}-{os.path.basename(library)}")
         needed = archive + ".needed"
-        run(
-            "objcopy",
-            f"--dump-section={OBJECTS}={archive}",
-            f"--dump-section={NEEDED}={needed}",
-            library,
-            archive + ".copy",
-        )
-        with open(needed, encoding="utf-8", errors="surrogateescape") as file:
-            for other in file.read().splitlines():
-                self.need(self.found(other, library))
+        dumped = [f"--dump-section={OBJECTS}={archive}", f"--dump-section={NEEDED}={needed}"]
+        run("objcopy", *dumped, library, archive + ".copy")
+        for other in text_of(needed).splitlines():
+            self.need(self.found(other, library))
         self.archives.append(archive)
 
     def need(self, library: str) -> None:
@@ -90,18 +83,10 @@ class Libraries:
             both = [word, next(words, "")] if word == "-l" else [word]
             if not self.is_named("".join(both)):
                 rest += both
-        return [
-            "-Wl,--whole-archive",
-            *self.archives,
-            "-Wl,--no-whole-archive",
-            *rest,
-            "-Wl,--push-state,--as-needed",
-            *self.others,
-            "-Wl,--pop-state",
-        ]
+        own = ["-Wl,--whole-archive", *self.archives, "-Wl,--no-whole-archive"]
+        return [*own, *rest, "-Wl,--push-state,--as-needed", *self.others, "-Wl,--pop-state"]
 
     def is_named(self, word: str) -> bool:
-        """Whether a word names one of the libraries."""
         if word.startswith("-l"):
             name = word[3:] if word.startswith("-l:") else f"lib{word[2:]}.so"
             return name in self.names

@@ -8,13 +8,13 @@ child by a text alone, so every other spawn is refused.
 from __future__ import annotations
 
 import re
-from collections.abc import Iterable
 
 from compile import loops
 from compile import spawns_cplusplus
 from compile.line_markers import Files
 from tokens import (
     ASSIGNMENTS,
+    Construct,
     Refused,
     Token,
     arguments_of,
@@ -22,7 +22,6 @@ from tokens import (
     is_in_block,
     is_lvalue,
     own_constants,
-    piece,
     statement_start,
     tokens_of,
     without,
@@ -30,9 +29,7 @@ from tokens import (
 
 TYPE_CHECKING = False
 if TYPE_CHECKING:
-    from typing import Any
-
-    Edit = tuple[Any, ...]
+    from tokens import Edit
 
 LITERALS = {"string", "character", "number"}
 NO_LOCALS = {"static", "extern", "typedef", "__auto_type"}
@@ -60,38 +57,19 @@ def is_one_target(tokens: list[Token], first: int, sign: int) -> bool:
     return tokens[sign].text in ASSIGNMENTS and first < sign and not (ASSIGNMENTS | {",", "?", "return"}) & direct
 
 
-def check_target(tokens: list[Token], first: int, spawn: int) -> bool:
-    """What stands before a spawn has to be `lvalue =` or `type name =`."""
-    sign = spawn - 1
-    target = tokens[first:sign]
-    if not is_one_target(tokens, first, sign):
-        raise Refused(tokens[spawn], f"a spawn inside a larger expression can't be traced: {SHAPES}")
-    if is_lvalue(tokens, first, sign):
-        return False
-    if target[-1].kind != "word" or tokens[sign].text != "=" or any(token.text in NO_LOCALS for token in target):
-        raise Refused(tokens[spawn], "a spawn can't be traced in this declaration: declare the variable before it")
-    return True
-
-
-class Spawn:
-    """One spawn, and the pieces of what stands for its statement."""
-
+class Spawn(Construct):
     def __init__(self, text: str, tokens: list[Token], spawn: int) -> None:
-        self.text, self.tokens, self.spawn = text, tokens, spawn
-        self.here = tokens[spawn].marker(" 3")
+        super().__init__(text, tokens, spawn)
+        self.spawn = spawn
         opening = call_after(tokens, spawn)
         if not is_in_block(tokens, spawn) or opening is None:
-            raise Refused(tokens[spawn], f"a spawn inside a larger expression can't be traced: {SHAPES}")
+            self.refuse(f"a spawn inside a larger expression can't be traced: {SHAPES}")
         self.opening = opening
         self.closing = tokens[self.opening].partner
         if any(token.text == "_Cilk_spawn" for token in tokens[spawn + 1 : self.closing]):
-            raise Refused(tokens[spawn], f"a spawn inside another one can't be traced: {SHAPES}")
+            self.refuse(f"a spawn inside another one can't be traced: {SHAPES}")
         self.first = statement_start(tokens, spawn)
         self.last = self.closing + 1
-
-    def piece(self, first: int, last: int, without: Iterable[Token] = ()) -> str:
-        """A piece of the program, on its own lines; what follows is on the spawn's."""
-        return piece(self.text, self.tokens[first], self.tokens[last], without) + self.here
 
     def arguments(self) -> tuple[list[str], str]:
         """A declaration for each argument that has to be evaluated first, and what to hand over."""
@@ -110,10 +88,21 @@ class Spawn:
         if [token.text for token in self.tokens[self.first : self.spawn]] in ([], ["(", "void", ")"]):
             return "", []
         declared, named = "", (self.first, self.spawn - 2)
-        if check_target(self.tokens, self.first, self.spawn):
+        if self.declares():
             declared = self.piece(*named, own_constants(self.tokens, *named)) + ";"
             named = (self.spawn - 2, self.spawn - 2)
         return declared, [f"__auto_type __spbags_target = &({self.piece(*named)});"]
+
+    def declares(self) -> bool:
+        """Whether what stands before the spawn is `type name =`, and not `lvalue =`."""
+        sign, target = self.tokens[self.spawn - 1], self.tokens[self.first : self.spawn - 1]
+        if not is_one_target(self.tokens, self.first, self.spawn - 1):
+            self.refuse(f"a spawn inside a larger expression can't be traced: {SHAPES}")
+        if is_lvalue(self.tokens, self.first, self.spawn - 1):
+            return False
+        if target[-1].kind != "word" or sign.text != "=" or any(token.text in NO_LOCALS for token in target):
+            self.refuse("a spawn can't be traced in this declaration: declare the variable before it")
+        return True
 
     def rewritten(self) -> str:
         declared, address = self.target()

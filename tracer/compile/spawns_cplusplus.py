@@ -6,13 +6,13 @@ the program stays where it is, in one full expression, and the compiler chooses 
 from __future__ import annotations
 
 import re
-from collections.abc import Iterable
 
 from compile.loops import KEEPS, begins_function, entered, is_in_inner
 from compile.operators import Operation, pointer_sign, signature, with_hooks_and_without
 from tokens import (
     ASSIGNMENTS,
     CONTROLS,
+    Construct,
     Refused,
     Token,
     after_angles,
@@ -20,15 +20,14 @@ from tokens import (
     is_in_block,
     outside,
     own_constants,
-    piece,
     statement_start,
 )
 
 TYPE_CHECKING = False
 if TYPE_CHECKING:
-    from typing import Any, NoReturn
+    from typing import Any
 
-    Edit = tuple[Any, ...]
+    from tokens import Edit
 
 SHAPES = (
     "write `cilk_spawn f(..);', `x = cilk_spawn f(..);', `x += cilk_spawn f(..);' or "
@@ -42,6 +41,7 @@ NO_NAMES = CONTROLS | set(
     "__attribute__ asm __asm__ __typeof__ typeof".split()
 )
 NO_LOCALS = set("static extern typedef using thread_local _Thread_local __thread constexpr constinit".split())
+NO_TARGET = ASSIGNMENTS | {",", "?", "return", "throw", "<<", ">>"}
 NO_SIGNATURE = "[&](__spbags_spawned, auto *) -> __spbags_no_signature { return {}; }"
 STATEMENT = "[&](__spbags_spawned) __attribute__((noipa))"
 FORWARDED = "static_cast<decltype(__spbags_p) &&>(__spbags_p)..."
@@ -166,13 +166,10 @@ class Postfix:
             self.member = None
 
 
-class Spawn:
-    """One spawn, and the pieces of what stands for its statement."""
-
+class Spawn(Construct):
     def __init__(self, text: str, tokens: list[Token], spawn: int, waiting: set[int]) -> None:
-        self.text, self.tokens, self.spawn = text, tokens, spawn
-        self.keeps = waits_at(tokens, spawn) in waiting
-        self.here = tokens[spawn].marker(" 3")
+        super().__init__(text, tokens, spawn)
+        self.spawn, self.keeps = spawn, waits_at(tokens, spawn) in waiting
         if SPAWNED not in text:
             self.refuse("a spawn needs C++14, as by -std=c++14")
         if not is_statement(tokens, spawn):
@@ -194,13 +191,6 @@ class Spawn:
         self.first = statement_start(tokens, spawn - self.is_braced)
         if self.operation and self.operation.is_assignment and self.first != spawn:
             self.refuse(LARGER)
-
-    def refuse(self, why: str) -> NoReturn:
-        raise Refused(self.tokens[self.spawn], why)
-
-    def piece(self, first: int, last: int, without: Iterable[Token] = ()) -> str:
-        """A piece of the program, on its own lines; what follows is on the spawn's."""
-        return piece(self.text, self.tokens[first], self.tokens[last], without) + self.here
 
     def count(self) -> str:
         """How many arguments there are, where the text says it."""
@@ -267,11 +257,8 @@ class Spawn:
     def member_calls(self, member: int) -> str:
         first = member + 1
         name, has_arguments = self.words(first)
-        if (
-            has_arguments
-            and self.tokens[first].text != "template"
-            and "::" not in [token.text for token in self.tokens[first : self.opening]]
-        ):
+        texts = [token.text for token in self.tokens[first : self.opening]]
+        if has_arguments and texts[0] != "template" and "::" not in texts:
             name = "template " + name
         call = f"static_cast<decltype(__spbags_o) &&>(__spbags_o).{name}({FORWARDED})"
         parameters = "__spbags_spawned, auto &&__spbags_o, auto &&...__spbags_p"
@@ -285,11 +272,8 @@ class Spawn:
             return "(void)", "", None
         sign = self.spawn - 1
         direct = {self.tokens[at].text for at in outside(self.tokens, self.first, sign)}
-        if not self.is_braced and (
-            before[-1] not in ASSIGNMENTS
-            or sign == self.first
-            or (ASSIGNMENTS | {",", "?", "return", "throw", "<<", ">>"}) & direct
-        ):
+        is_assigned = before[-1] in ASSIGNMENTS and sign != self.first
+        if not self.is_braced and (not is_assigned or NO_TARGET & direct):
             self.refuse(LARGER)
         if not self.is_braced and self.is_lvalue(sign):
             at = self.piece(self.first, sign - 1)
@@ -321,7 +305,6 @@ class Spawn:
         return f"return {plain + '{' if self.is_braced else ''}", f" -> {plain}", declared
 
     def function(self, declares: bool) -> str:
-        """The statement's."""
         return f"__spbags_statement_{self.spawn}" if declares else "__spbags_statement"
 
     def may_be_reference(self, name: str) -> bool:

@@ -5,7 +5,8 @@ from __future__ import annotations
 
 import re
 import sys
-from collections.abc import Callable, Iterator
+from collections import namedtuple
+from collections.abc import Iterator
 
 from compile.line_markers import Files
 
@@ -23,26 +24,14 @@ ALGORITHMS = re.compile(r'"[^"\n]*/spbags/parallel\.h"')
 INSTEAD_OF_TASK = '\n__asm__("GOMP_task = __spbags_task");\n'
 
 
-class Target:
-    """What a source is compiled for."""
-
-    def __init__(self, is_cplusplus: bool, is_clang: bool, has_openmp: bool, warns: bool = True) -> None:
-        self.is_cplusplus, self.is_clang, self.has_openmp = is_cplusplus, is_clang, has_openmp
-        # Of OpenMP that is ignored.
-        self.warns = warns and not has_openmp
+# What a source is compiled for, and whether OpenMP that is ignored is told.
+Target = namedtuple("Target", "is_cplusplus is_clang has_openmp warns", defaults=[True])
 
 
 # The source that a step makes, and a line for each thing that can't be traced.
 Made = tuple[str, list[str]]
-
-
-class Step:
-    """A function, whose text says what it does to a source, and which sources it is for."""
-
-    def __init__(
-        self, name: str, is_taken: Callable[[str, Target], object], rewrite: Callable[[str, Target], Made]
-    ) -> None:
-        self.name, self.is_taken, self.rewrite = name, is_taken, rewrite
+# A function, whose text says what it does to a source, and which sources it is for.
+Step = namedtuple("Step", "name is_taken rewrite")
 
 
 # ---- Assembly ----
@@ -102,12 +91,10 @@ def with_openmp(text: str, target: Target) -> Made:
 
 def without_instances(text: str, _: Target) -> Made:
     """the library's headers don't say that it has instances of them"""
-    made, done, files = [], 0, Files(text)
-    for declared in STRINGS.finditer(text):
-        if files.at(declared.start())[1]:
-            made.append(text[done : declared.start()])
-            done = declared.end()
-    return "".join(made) + text[done:], []
+    from tokens import replaced
+
+    files, found = Files(text), STRINGS.finditer(text)
+    return replaced(text, ((*one.span(), "") for one in found if files.at(one.start())[1])), []
 
 
 def with_plain_lambdas(text: str, _: Target) -> Made:
@@ -149,7 +136,7 @@ def with_spawns(text: str, target: Target) -> Made:
 
 STEPS = [
     Step("assembly", lambda text, _: may_have_assembly(text), with_assembly),
-    Step("ignored OpenMP", lambda text, target: target.warns and OPENMP.search(text), with_warning),
+    Step("ignored OpenMP", lambda text, to: to.warns and not to.has_openmp and OPENMP.search(text), with_warning),
     Step("OpenMP", lambda text, target: target.has_openmp and OPENMP.search(text), with_openmp),
     Step("strings", lambda text, target: target.is_cplusplus and STRINGS.search(text), without_instances),
     Step("plain lambdas", lambda text, target: target.is_cplusplus and ALGORITHMS.search(text), with_plain_lambdas),

@@ -51,6 +51,10 @@ uint8_t spbags_block(void *handle, uint64_t location, uint64_t reads, uint64_t w
    the former life is used again. */
 uint8_t spbags_forget(void *handle, uint64_t location, uint64_t units);
 
+/* Returns how many locations have raced so far: those of the report, if it were made now. After spbags_report, and if the
+   session has stopped, it returns 0. */
+size_t spbags_race_count(const void *handle);
+
 /* Makes the text of the report of all records that were taken. Of a location that has raced in several lives it has one
    race. No record is taken after that. */
 uint8_t spbags_report(void *handle);

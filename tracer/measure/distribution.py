@@ -63,11 +63,11 @@ def make(folder, *words, **settings):
         raise Failure(f"{' '.join(words)}: " + " | ".join(done.stdout.strip().splitlines()[-3:]))
 
 
-def clustalo(distribution, folder, cc, cxx, flags="-g -O2", libraries=""):
+def clustalo(distribution, folder, cc, cxx, flags="-g -O2"):
     """Clustal Omega, compiled in this folder; the program."""
     folder = distribution.source("clustalo", into=folder)
     beside = os.path.join(distribution.installed("libargtable2-dev", "libargtable2-0"), "usr")
-    make(folder, "./configure", f"CC={cc}", f"CXX={cxx}", f"CFLAGS={flags}", f"CXXFLAGS={flags}", f"LIBS={libraries}",
+    make(folder, "./configure", f"CC={cc}", f"CXX={cxx}", f"CFLAGS={flags}", f"CXXFLAGS={flags}",
          f"CPPFLAGS=-I{beside}/include", f"LDFLAGS=-L{beside}/lib/x86_64-linux-gnu -L{beside}/lib")
     make(folder, "make", "-j4")
     return os.path.join(folder, "src", "clustalo")

@@ -1,13 +1,4 @@
-/* A race at the end of any program that is linked with this: by Cilk, or by OpenMP where the program has that. */
-#ifdef _OPENMP
-static int cell;
-
-__attribute__((destructor)) static void race(void) {
-#pragma omp parallel for num_threads(2)
-    for (int i = 0; i < 2; i++)
-        cell = i;
-}
-#else
+/* A race at the end of any program that is linked with this. */
 #include <cilk/cilk.h>
 
 static int cell;
@@ -18,4 +9,3 @@ __attribute__((destructor)) static void race(void) {
     cilk_spawn set();
     set();
 }
-#endif

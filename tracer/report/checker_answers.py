@@ -32,7 +32,6 @@ class Race(NamedTuple):
 
 
 def races_of(lines: list[str]) -> list[Race]:
-    """The races of a report."""
     head = HEAD.fullmatch(lines[0]) if lines else None
     if not head:
         raise Failure(

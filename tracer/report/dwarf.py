@@ -2,11 +2,13 @@
 asks for it: all of a large program would take seconds."""
 import bisect
 import contextlib
+import functools
 import struct
 from collections.abc import Iterator
 from dataclasses import dataclass, field
+from typing import Any
 
-from report.elf import UNREADABLE, Elf, text_at
+from elf import UNREADABLE, Elf, text_at
 
 # Forms by their size; those of another kind are read by a function of their own below.
 FORMS_OF_SIZE = {
@@ -54,7 +56,7 @@ def sleb(data: bytes, at: int) -> tuple[int, int]:
 Abbreviation = tuple[int, bool, list[tuple[int, int, int | None]]]
 
 
-@dataclass
+@dataclass(eq=False)
 class Unit:
     """A compile unit: where it, its entries and its abbreviations begin."""
 
@@ -63,52 +65,36 @@ class Unit:
     end: int
     version: int
     abbreviations: int
-    root: "Entry | None" = None
 
 
-@dataclass(eq=False)
+@dataclass(unsafe_hash=True)
 class Entry:
-    """An entry, with the form and the value of each attribute that is a number, and the other ones that are blocks."""
+    """An entry, with the form and the value of each attribute: a number, or a block."""
 
-    unit: Unit
+    unit: Unit = field(compare=False)
     at: int
     tag: int
     has_children: bool
-    end: int = 0
-    numbers: dict[int, tuple[int, int]] = field(default_factory=dict)
-    blocks: dict[int, bytes] = field(default_factory=dict)
+    end: int = field(default=0, compare=False)
+    values: dict[int, tuple[int, Any]] = field(default_factory=dict, compare=False)
 
-    def __eq__(self, other: object) -> bool:
-        return isinstance(other, Entry) and self.at == other.at
-
-    def __hash__(self) -> int:
-        return hash(self.at)
-
-    def has(self, attribute: int) -> bool:
-        return attribute in self.numbers or attribute in self.blocks
+    def value(self, attribute: int) -> Any:
+        return self.values.get(attribute, (0, None))[1]
 
     def number(self, attribute: int) -> int | None:
-        found = self.numbers.get(attribute)
-        return found[1] if found else None
+        found = self.value(attribute)
+        return found if isinstance(found, int) else None
 
 
 class Dwarf:
     def __init__(self, elf: Elf) -> None:
-        self.elf = elf
+        self.section = functools.cache(elf.section)
         self.info = self.abbrev = b""
-        self.kept: dict[str, bytes] = {}
-        self.abbreviations: dict[int, dict[int, Abbreviation]] = {}
-        self.children_of: dict[int, list[int]] = {}
         self.units: list[Unit] = []
         with contextlib.suppress(*UNREADABLE):
-            self.info, self.abbrev = elf.section(".debug_info"), elf.section(".debug_abbrev")
+            self.info, self.abbrev = self.section(".debug_info"), self.section(".debug_abbrev")
             self.units = list(self.read_units())
         self.starts = [unit.start for unit in self.units]
-
-    def section(self, name: str) -> bytes:
-        if name not in self.kept:
-            self.kept[name] = self.elf.section(name)
-        return self.kept[name]
 
     def read_units(self) -> Iterator[Unit]:
         at = 0
@@ -129,21 +115,19 @@ class Dwarf:
         number = bisect.bisect_right(self.starts, at) - 1
         return self.units[number] if number >= 0 and at < self.units[number].end else None
 
+    @functools.cache
     def table(self, start: int) -> dict[int, Abbreviation]:
         """The abbreviations that begin here, by their numbers."""
-        if start in self.abbreviations:
-            return self.abbreviations[start]
-        table, at = {}, start
+        table: dict[int, Abbreviation] = {}
+        at = start
         while True:
             number, at = uleb(self.abbrev, at)
             if number == 0:
-                break
+                return table
             tag, at = uleb(self.abbrev, at)
             has_children, at = self.abbrev[at] == 1, at + 1
             attributes, at = self.attributes(at)
             table[number] = (tag, has_children, attributes)
-        self.abbreviations[start] = table
-        return table
 
     def attributes(self, at: int) -> tuple[list[tuple[int, int, int | None]], int]:
         found: list[tuple[int, int, int | None]] = []
@@ -157,7 +141,7 @@ class Dwarf:
                 return found, at
             found.append((attribute, form, constant))
 
-    def number(self, form: int, at: int) -> tuple[int, int]:
+    def value(self, form: int, at: int) -> tuple[int | bytes, int]:
         """The value of this form, and what follows it; of a text in the entry where it begins."""
         info = self.info
         if form in SIZES:
@@ -169,14 +153,9 @@ class Dwarf:
             return sleb(info, at)
         if form == STRING:
             return at, info.index(b"\0", at) + 1
-        raise LookupError("an unknown form")
-
-    def block(self, form: int, at: int) -> tuple[bytes, int]:
-        width = BLOCKS[form]
-        size, start = (
-            (int.from_bytes(self.info[at : at + width], "little"), at + width) if width else uleb(self.info, at)
-        )
-        return self.info[start : start + size], start + size
+        start = at + BLOCKS[form]
+        size, start = (int.from_bytes(info[at:start], "little"), start) if start > at else uleb(info, at)
+        return info[start : start + size], start + size
 
     def entry_or_end(self, unit: Unit, at: int) -> Entry | None:
         """The entry that begins here; None is the end of others' children."""
@@ -188,13 +167,8 @@ class Dwarf:
         for attribute, form, constant in attributes:
             if form == INDIRECT:
                 form, end = uleb(self.info, end)
-            if constant is not None:
-                entry.numbers[attribute] = form, constant
-            elif form in BLOCKS:
-                entry.blocks[attribute], end = self.block(form, end)
-            else:
-                value, end = self.number(form, end)
-                entry.numbers[attribute] = form, value
+            value, end = self.value(form, end) if constant is None else (constant, end)
+            entry.values[attribute] = form, value
         entry.end = end
         return entry
 
@@ -204,15 +178,13 @@ class Dwarf:
             raise LookupError("no entry")
         return found
 
+    @functools.cache
     def root(self, unit: Unit) -> Entry:
-        unit.root = unit.root or self.entry(unit, unit.first)
-        return unit.root
+        return self.entry(unit, unit.first)
 
+    @functools.cache
     def children(self, entry: Entry) -> list[int]:
-        """Where the children of an entry begin."""
-        if entry.at not in self.children_of:
-            self.children_of[entry.at] = self.read_children(entry)[0] if entry.has_children else []
-        return self.children_of[entry.at]
+        return self.read_children(entry)[0] if entry.has_children else []
 
     def read_children(self, entry: Entry) -> tuple[list[int], int]:
         """Where they begin, and where they end."""
@@ -245,7 +217,7 @@ class Dwarf:
 
     def referred(self, entry: Entry, attribute: int) -> Entry | None:
         """The entry to which an attribute refers."""
-        form, value = entry.numbers.get(attribute, (0, 0))
+        form, value = entry.values.get(attribute, (0, 0))
         if form in REFERENCES:
             return self.entry(entry.unit, entry.unit.start + value)
         unit = self.unit_at(value) if form == GLOBAL_REFERENCE else None
@@ -254,7 +226,7 @@ class Dwarf:
     def inherited(self, entry: Entry | None, attribute: int) -> Entry | None:
         """The entry that has this attribute: this one, or what it completes."""
         for _ in range(8):
-            if entry is None or entry.has(attribute):
+            if entry is None or attribute in entry.values:
                 return entry
             entry = self.referred(entry, ORIGIN) or self.referred(entry, SPECIFICATION)
         return None
@@ -263,7 +235,7 @@ class Dwarf:
         named = self.inherited(entry, NAME)
         if named is None:
             return None
-        form, value = named.numbers[NAME]
+        form, value = named.values[NAME]
         if form == STRING:
             return text_at(self.info, value)
         if form in INDEXED_STRINGS:
@@ -279,8 +251,8 @@ class Dwarf:
         return otherwise if found is None else found
 
     def address(self, entry: Entry, attribute: int) -> int | None:
-        form, value = entry.numbers.get(attribute, (0, None))
-        return self.indexed_address(entry.unit, value) if form in INDEXED_ADDRESSES and value is not None else value
+        form, value = entry.values.get(attribute, (0, None))
+        return self.indexed_address(entry.unit, value) if form in INDEXED_ADDRESSES else value
 
     def indexed_address(self, unit: Unit, number: int) -> int:
         (found,) = struct.unpack_from(
@@ -289,12 +261,9 @@ class Dwarf:
         return int(found)
 
     def expressions(self, entry: Entry) -> list[bytes]:
-        """All that the location of an entry may be."""
-        if LOCATION in entry.blocks:
-            return [entry.blocks[LOCATION]]
-        if LOCATION not in entry.numbers:
-            return []
-        form, value = entry.numbers[LOCATION]
+        form, value = entry.values.get(LOCATION, (0, None))
+        if not isinstance(value, int):
+            return [value] if value is not None else []
         if entry.unit.version == 4:
             return list(self.old_list(value))
         if form == INDEXED_LIST:

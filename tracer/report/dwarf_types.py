@@ -1,16 +1,18 @@
 """The types of a program's DWARF: their sizes, and which members and elements some of their bytes are of."""
-from collections.abc import Callable, Iterable, Iterator
+import functools
+from collections.abc import Iterable, Iterator
 from itertools import islice
-from typing import Any, NamedTuple, TypeVar, cast
+from typing import NamedTuple
 
 from report.dwarf import Dwarf, Entry
 
 # Tags.
 ARRAY, CLASS, MEMBER, POINTER, REFERENCE, STRUCTURE, TYPEDEF, UNION = 0x01, 0x02, 0x0D, 0x0F, 0x10, 0x13, 0x16, 0x17
 INHERITANCE, SUBRANGE, CONST, VOLATILE, RESTRICT, RIGHT_REFERENCE, ATOMIC = 0x1C, 0x21, 0x26, 0x35, 0x37, 0x42, 0x47
-POINTERS, POINTER_SIZE = {POINTER, REFERENCE, RIGHT_REFERENCE}, 8
 RENAMING = {TYPEDEF, CONST, VOLATILE, RESTRICT, ATOMIC}
-WITH_MEMBERS = {CLASS, STRUCTURE, UNION}
+CLASSES, REFERENCES = {CLASS, STRUCTURE}, {REFERENCE, RIGHT_REFERENCE}
+POINTER_SIZE = 8
+WITH_MEMBERS = CLASSES | {UNION}
 
 # Attributes.
 BYTE_SIZE, BIT_OFFSET, BIT_SIZE, UPPER_BOUND, COUNT = 0x0B, 0x0C, 0x0D, 0x2F, 0x37
@@ -29,19 +31,6 @@ class Part(NamedTuple):
 
 # Some bytes of a variable, from a first one to an end.
 Run = tuple[int, int]
-Method = TypeVar("Method", bound=Callable[..., Any])
-
-
-def kept(method: Method) -> Method:
-    """What a method finds of an entry, which is looked up once."""
-
-    def found(self: "Shapes", entry: Entry | None) -> Any:
-        key = method, entry.at if entry else None
-        if key not in self.kept:
-            self.kept[key] = method(self, entry)
-        return self.kept[key]
-
-    return cast(Method, found)
 
 
 class Elements(Entry):
@@ -49,16 +38,15 @@ class Elements(Entry):
 
     def __init__(self, element: Entry, size: int) -> None:
         # No entry of the program begins there.
-        super().__init__(element.unit, -(element.at << 48 | size), ARRAY, False, numbers={BYTE_SIZE: (0, size)})
+        super().__init__(element.unit, -(element.at << 48 | size), ARRAY, False, values={BYTE_SIZE: (0, size)})
         self.element = element
 
 
 class Shapes:
     def __init__(self, dwarf: Dwarf) -> None:
         self.dwarf = dwarf
-        self.kept: dict[Any, Any] = {}
 
-    @kept
+    @functools.cache
     def type_of(self, entry: Entry | None) -> Entry | None:
         """The type of a variable, a member or an element, behind its other names."""
         found = self.dwarf.inherited(entry, TYPE)
@@ -67,19 +55,19 @@ class Shapes:
             found = self.dwarf.referred(found, TYPE)
         return found
 
-    @kept
+    @functools.cache
     def size(self, kind: Entry | None) -> int | None:
         if kind is None:
             return None
         own = kind.number(BYTE_SIZE)
         if own is not None or kind.tag != ARRAY:
-            return POINTER_SIZE if own is None and kind.tag in POINTERS else own
+            return POINTER_SIZE if own is None and kind.tag in REFERENCES | {POINTER} else own
         size = self.size(self.type_of(kind))
         for count in self.counts(kind):
             size = size and count and size * count
         return size or None
 
-    @kept
+    @functools.cache
     def counts(self, array: Entry) -> list[int | None]:
         """How many elements an array has in each dimension; None where that isn't known."""
         found = []
@@ -92,11 +80,9 @@ class Shapes:
     # ---- Parts ----
 
     def part(self, kind: Entry | None, offset: int) -> Part:
-        """The part with this byte."""
         return next(self.parts(kind, offset, offset + 1))
 
     def parts(self, kind: Entry | None, first: int, end: int) -> Iterator[Part]:
-        """The parts with these bytes."""
         if kind and kind.tag == ARRAY:
             return self.parts_of_array(kind, first, end)
         if kind and kind.tag in WITH_MEMBERS:
@@ -141,14 +127,12 @@ class Shapes:
 
     def touched(self, kind: Entry, first: int, end: int) -> list[tuple[Entry, int, int]]:
         """The members with these bytes, or none where two have the same."""
-        found = sorted(
-            (
-                (member, start, size)
-                for member, start, size in self.members(kind)
-                if size and start < end and first < start + size
-            ),
-            key=lambda member: member[1],
-        )
+        found = [
+            (member, start, size)
+            for member, start, size in self.members(kind)
+            if size and start < end and first < start + size
+        ]
+        found.sort(key=lambda member: member[1])
         return [] if any(one[1] + one[2] > other[1] for one, other in zip(found, found[1:])) else found
 
     def count(self, kind: Entry | None, first: int, end: int) -> int:
@@ -156,7 +140,7 @@ class Shapes:
         is_whole = kind is not None and first == 0 and end == self.size(kind)
         return self.count_all(kind) if is_whole else self.counted(kind, first, end)
 
-    @kept
+    @functools.cache
     def count_all(self, kind: Entry | None) -> int:
         return self.counted(kind, 0, self.size(kind) or 0)
 
@@ -195,14 +179,17 @@ class Shapes:
             before = end
         return paths, number
 
-    @kept
+    def fields(self, kind: Entry) -> Iterator[Entry]:
+        """The members and the bases of a struct, class or union."""
+        of_objects = (child for child in self.dwarf.each_child(kind) if not child.number(DECLARATION))
+        return (child for child in of_objects if child.tag in (MEMBER, INHERITANCE))
+
+    @functools.cache
     def members(self, kind: Entry) -> list[tuple[Entry, int, int | None]]:
-        """The members and the bases of a struct, class or union, with the bytes that they touch."""
+        """With the bytes that they touch."""
         found = []
-        for child in self.dwarf.each_child(kind):
-            if child.tag not in (MEMBER, INHERITANCE) or child.number(DECLARATION):
-                continue
-            first = child.number(MEMBER_LOCATION) if child.has(MEMBER_LOCATION) else 0
+        for child in self.fields(kind):
+            first = child.number(MEMBER_LOCATION) if MEMBER_LOCATION in child.values else 0
             if first is not None:
                 found.append((child, *self.bytes_of(child, first)))
         return found

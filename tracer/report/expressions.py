@@ -96,7 +96,6 @@ class Line:
         return Use(text, base, tuple(steps), *self.usage(start, prefix, behind), self.is_declared(first), is_first)
 
     def prefix(self, start: int) -> str | None:
-        """The operator for one operand before this, or None."""
         found = self.text_at(start - 1)
         return found if found in STEPS and not self.is_operand(start - 2) else None
 

@@ -6,21 +6,7 @@ from collections.abc import Iterable, Sequence
 from typing import NamedTuple
 
 from report.dwarf import Entry
-from report.dwarf_types import (
-    ARRAY,
-    CLASS,
-    DECLARATION,
-    INHERITANCE,
-    MEMBER,
-    POINTER,
-    REFERENCE,
-    RIGHT_REFERENCE,
-    STRUCTURE,
-    TYPE,
-    Elements,
-    Part,
-    Run,
-)
+from report.dwarf_types import ARRAY, CLASSES, MEMBER, POINTER, REFERENCES, TYPE, Elements, Part, Run
 from report.expressions import Use, uses_of
 from report.function_names import without_arguments
 from report.variables import Names, readable
@@ -60,14 +46,13 @@ class Made(NamedTuple):
 # An expression's type; what its last pointer leads to; and its text.
 Followed = tuple[Entry | None, Reached | None, str]
 POINTED, INDEXED, DIRECT = "pointed", "indexed", "direct"
-CLASSES, REFERENCES = {CLASS, STRUCTURE}, {REFERENCE, RIGHT_REFERENCE}
 # Classes that lead to memory of the heap as a pointer does, by the beginning of their names and the operators for that;
 # and the parameter of these templates that is the type there.
 LEADING, PARAMETER, PARAMETER_NAME = (("vector<", ("[]",)), ("unique_ptr<", ("*", "->"))), 0x2F, "_Tp"
 # The class of the library that a function is of.
 MEMBER_OF = re.compile(r"\bstd::(?:__cxx11::)?(\w+)<[^<>]*>::")
-# Bytes that C++ may put before an array of objects.
-COOKIE = 8
+# The sizes of objects of which so many fill the 8 bytes that C++ may put before an array.
+DIVISORS = {1, 2, 4, 8}
 
 
 class Expressions:
@@ -109,7 +94,6 @@ class Expressions:
         return None
 
     def only(self, found: Iterable[Reached]) -> Reached | None:
-        """The one that is known."""
         known = {(one.pointer, one.path, self.identity(one)): one for one in found}
         return known.popitem()[1] if len(known) == 1 else None
 
@@ -178,9 +162,7 @@ class Expressions:
 
     def member(self, kind: Entry, name: str) -> Entry | None:
         """The type of a member, of a base or of a member without a name too."""
-        for member in self.dwarf.each_child(kind):
-            if member.tag not in (MEMBER, INHERITANCE) or member.number(DECLARATION):
-                continue
+        for member in self.shapes.fields(kind):
             own = self.dwarf.name(member) if member.tag == MEMBER else None
             found = self.shapes.type_of(member)
             if own != name:
@@ -191,8 +173,6 @@ class Expressions:
 
 
 class HeapTypes:
-    """What blocks are of."""
-
     def __init__(self, names: Names) -> None:
         self.names, self.shapes, self.expressions = names, names.shapes, Expressions(names)
 
@@ -275,21 +255,14 @@ class HeapTypes:
             found = [one for one in (self.expressions.assigned(use, line.code) for use in uses_of(line.text)) if one]
             if found:
                 reached = self.expressions.only(found)
-                return (
-                    reached
-                    if reached
-                    and self.has_all(reached.kind, size, line)
-                    and all(self.part_at(reached.kind, offset, size, access.width) for access in accesses)
-                    else None
-                )
+                parts = (reached and self.part_at(reached.kind, offset, size, access.width) for access in accesses)
+                return reached if reached and self.has_all(reached.kind, size, line) and all(parts) else None
         return None
 
     def has_all(self, kind: Entry, size: int, line: Line) -> bool:
         """Whether a block that this line allocates has elements of this type alone."""
         element = self.shapes.size(kind) or 0
-        may_have_cookie = (
-            kind.tag in CLASSES and element > 0 and COOKIE % element == 0 and re.search(r"\bnew\b", line.text)
-        )
+        may_have_cookie = kind.tag in CLASSES and element in DIVISORS and re.search(r"\bnew\b", line.text)
         return element > 0 and size % element == 0 and not may_have_cookie
 
 

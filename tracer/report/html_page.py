@@ -13,8 +13,9 @@ from markupsafe import Markup, escape  # type: ignore[import]
 from pygments import token  # type: ignore[import]
 from pygments.lexers.c_cpp import CLexer, CppLexer  # type: ignore[import]
 
-from report import pairs, source_lines, stack_rows, text
+from report import source_lines, stack_rows, text
 from report.function_names import function_of
+from report.pairs import Pair
 from report.result import Ended, Report
 from report.source_lines import Position
 from report.stack_rows import Frame
@@ -44,28 +45,11 @@ DOES = {
 }
 
 
-# A place, and the number of its source below the pairs. A pair in the table, and where it leads: to the pair as a
-# whole, or to both its sources.
-Lead = NamedTuple("Lead", [("place", str), ("excerpt", int | None)])
-Row = NamedTuple("Row", [("number", int), ("whole", bool), ("leads", list[Lead]), ("kinds", str)])
 Excerpt = NamedTuple("Excerpt", [("name", str), ("place", str), ("function", str), ("lines", str)])
 Box = NamedTuple("Box", [("x", int), ("y", int), ("kind", str), ("function", str), ("place", str)])
 # The line between two boxes: where it begins and ends, and whether there is a spawn between them.
 Edge = NamedTuple("Edge", [("x", int), ("y", int), ("to_x", int), ("to_y", int), ("spawns", bool)])
 Drawing = NamedTuple("Drawing", [("width", int), ("height", int), ("boxes", list[Box]), ("edges", list[Edge])])
-
-
-class Pair(NamedTuple):
-    number: int
-    races: int
-    kinds: str
-    variable: str
-    order: list[tuple[str, str]]
-    excerpts: list[Excerpt]
-    stacks: list[tuple[str, list[stack_rows.Row]]]
-    allocation: list[stack_rows.Row]
-    drawing: Drawing | None
-    is_guarded: bool
 
 
 # ---- Sources ----
@@ -86,7 +70,6 @@ def pieces_of(file: str) -> Iterator[str | None]:
 
 @functools.cache
 def coloured(file: str) -> list[str]:
-    """The lines of a source as HTML."""
     lines: list[list[str]] = [[]]
     for piece in pieces_of(file):
         if piece is None:
@@ -112,7 +95,7 @@ def excerpt_of(lead: Position, name: str = "") -> Excerpt:
     return Excerpt(name, stack_rows.place(lead), function_of(lead), lines_around(lead.file, lead.line))
 
 
-def excerpts_of(pair: pairs.Pair) -> list[Excerpt]:
+def excerpts_of(pair: Pair) -> list[Excerpt]:
     """Those of both accesses, or one where both stand on one line."""
     return [
         excerpt_of(lead, " and ".join(text.kind_of(side.kind, pair) for side in sides))
@@ -142,7 +125,7 @@ def edges_of(top: Box, column: list[Box]) -> Iterator[Edge]:
         yield Edge(upper.x + BOX // 2, upper.y + STEP - 16, lower.x + BOX // 2, lower.y, upper.kind == "spawn")
 
 
-def top_of(pair: pairs.Pair, outermost: list[Position]) -> Box | None:
+def top_of(pair: Pair, outermost: list[Position]) -> Box | None:
     """The construct whose children race, or the function where both meet; None where that isn't known."""
     if pair.siblings:
         position, kind = pair.siblings.position, "spawn"
@@ -154,8 +137,9 @@ def top_of(pair: pairs.Pair, outermost: list[Position]) -> Box | None:
     return Box(COLUMN // 2, 0, kind, text.in_middle(function_of(position), LETTERS), text.at_start(said, LETTERS))
 
 
-def drawing_of(pair: pairs.Pair, stacks: list[list[Frame]]) -> Drawing | None:
+def drawing_of(pair: Pair) -> Drawing | None:
     """Two columns of boxes below one, as far as both stacks aren't alike."""
+    stacks = text.stacks_of(pair)
     tail = stack_rows.common_tail(*stacks)
     own = [stack[: len(stack) - tail] for stack in stacks]
     top = top_of(pair, [stack[-1].position for stack in own])
@@ -169,45 +153,10 @@ def drawing_of(pair: pairs.Pair, stacks: list[list[Frame]]) -> Drawing | None:
 # ---- The page ----
 
 
-def pair_of(number: int, pair: pairs.Pair, unit: int) -> Pair:
-    stacks = text.stacks_of(pair)
-    return Pair(
-        number,
-        pair.races,
-        text.headline_kinds(pair),
-        text.variable_line(pair.variable, unit),
-        text.order_rows(pair),
-        excerpts_of(pair),
-        [(stack[0].role, stack_rows.access_rows(stack, side.lead())) for stack, side in zip(stacks, pair.sides)],
-        stack_rows.allocation_rows(pair.variable.stack) if pair.variable.stack else [],
-        drawing_of(pair, stacks),
-        pair.is_guarded(),
-    )
-
-
-class Table:
-    """The rows of all pairs, below the headings of their variables, and the sources of those that aren't shown
-    whole."""
-
-    def __init__(self, report: Report) -> None:
-        self.excerpts: dict[Position, int] = {}
-        self.groups: list[tuple[str, list[Row]]] = []
-        count = 0
-        for alike in text.by_variable(report.pairs):
-            self.groups.append(
-                (text.heading(alike), [self.row(number, pair) for number, pair in enumerate(alike, count + 1)])
-            )
-            count += len(alike)
-
-    def row(self, number: int, pair: pairs.Pair) -> Row:
-        leads = [side.lead() for side in pair.sides]
-        excerpts = [None if number <= WHOLE else self.excerpts.setdefault(lead, len(self.excerpts)) for lead in leads]
-        return Row(
-            number,
-            number <= WHOLE,
-            [Lead(stack_rows.place(lead), at) for lead, at in zip(leads, excerpts)],
-            text.headline_kinds(pair),
-        )
+def stacks_of(pair: Pair) -> list[tuple[str, list[stack_rows.Row]]]:
+    """What each access is called, and the rows of its stack."""
+    both = zip(text.stacks_of(pair), pair.sides)
+    return [(stack[0].role, stack_rows.access_rows(stack, side.lead())) for stack, side in both]
 
 
 def ending_of(ended: Ended) -> str:
@@ -219,25 +168,29 @@ def meaning_of(report: Report) -> str:
     """Of the status, whatever number it is."""
     if report.pairs or report.not_shown.pairs:
         return "the report has races"
-    return "no race was found" + (
-        ", but not everything was seen or modelled"
-        if text.left_out_lines(report)
-        else ", and everything was seen and modelled"
+    is_whole = not text.left_out_lines(report)
+    return (
+        f"no race was found, {'and everything was seen and' if is_whole else 'but not everything was seen or'} modelled"
     )
 
 
 def page_of(report: Report, status: int) -> str:
-    """The text of the page."""
-    table = Table(report)
+    numbered = enumerate(report.pairs, 1)
+    groups = [(text.heading(alike), [next(numbered) for _ in alike]) for alike in text.by_variable(report.pairs)]
+    # The sources of pairs that aren't shown whole, each with its number.
+    leads = dict.fromkeys(side.lead() for pair in report.pairs[WHOLE:] for side in pair.sides)
+    loader, strict = jinja2.FileSystemLoader(HERE), jinja2.StrictUndefined
     environment = jinja2.Environment(
-        loader=jinja2.FileSystemLoader(HERE),
-        autoescape=True,
-        trim_blocks=True,
-        lstrip_blocks=True,
-        undefined=jinja2.StrictUndefined,
+        loader=loader, autoescape=True, trim_blocks=True, lstrip_blocks=True, undefined=strict
     )
     return str(
         environment.get_template(TEMPLATE).render(
+            text=text,
+            place_of=stack_rows.place,
+            allocation_rows=stack_rows.allocation_rows,
+            excerpts_of=excerpts_of,
+            drawing_of=drawing_of,
+            stacks_of=stacks_of,
             program=os.path.basename(report.command[0]),
             command=shlex.join(report.command),
             report=report,
@@ -247,8 +200,9 @@ def page_of(report: Report, status: int) -> str:
             meaning=meaning_of(report),
             unseen=text.left_out_lines(report),
             notes=[*report.notes, *map(text.suppression_line, report.suppressions)],
-            groups=table.groups,
-            pairs=[pair_of(number, pair, report.unit) for number, pair in enumerate(report.pairs[:WHOLE], 1)],
-            excerpts=[excerpt_of(lead) for lead in table.excerpts],
+            groups=groups,
+            most=WHOLE,
+            numbers={lead: number for number, lead in enumerate(leads)},
+            excerpts=map(excerpt_of, leads),
         )
     )

@@ -86,31 +86,45 @@ class LaterRuns:
     def found(self, run: Run, places: BinaryIO | None = None, divided: BinaryIO | None = None) -> Found:
         return Found(run, places, divided, self.unit, self.chosen.streams)
 
-    def another(self, divided: BinaryIO | None, settings: dict[str, str], keeps_places: bool = False) -> Found:
-        """What one more run finds."""
+    def another(
+        self, divided: BinaryIO | None, settings: dict[str, str], keeps_places: bool = False, again: bool = False
+    ) -> Found:
+        """What one more run finds; AGAIN says that others follow it if it finds races."""
         files = files_of(divided)
         if not keeps_places:
-            return self.found(self.runner.found(None, True, files, **settings), None, divided)
+            return self.found(self.runner.found(None, True, files, settings, again), None, divided)
         with disk_file() as places:
-            run = self.runner.found(None, True, {**files, "SPBAGS_PLACES": places.fileno()}, **settings)
+            run = self.runner.found(None, True, {**files, "SPBAGS_PLACES": places.fileno()}, settings)
             return self.found(run, places, divided)
 
-    def find_behind(self, run: Run) -> bool:
-        """What the first run couldn't see behind taskwaits is seen by one in which their tasks are parts of their
-        parents. Whether that did the same: otherwise the lines about that stay."""
+    def find_more(self, run: Run, which: str) -> Run | None:
+        """What the first run couldn't see and another one does; that, if there may be one and it is whole."""
         try:
-            behind = self.another(None, {}) if run.is_whole() else None
+            more = self.another(None, {}, again=True) if run.is_whole() and not self.chosen.one_run else None
         except (Failure, OSError):
-            behind = None
+            more = None
         before = len(self.pairs)
-        if behind:
-            self.find_pairs(behind)
+        if more:
+            self.find_pairs(more)
         if len(self.pairs) > before:
             self.notes.append(
-                f"{text.many(len(self.pairs) - before, 'pair')} of lines came of one more run, in which a "
-                "task that a taskwait waits for is a part of its parent. A location may count in both"
+                f"{text.many(len(self.pairs) - before, 'pair')} of lines came of one more run, in which {which}. A "
+                "location may count in both"
             )
-        return behind is not None and behind.run.is_whole() and not behind.run.waits
+        return more.run if more and more.run.is_whole() else None
+
+    def find_behind(self, run: Run) -> bool:
+        """What stands behind taskwaits, by a run in which their tasks are parts of their parents. Whether that did the
+        same: otherwise the lines about that stay."""
+        behind = self.find_more(run, "a task that a taskwait waits for is a part of its parent")
+        return behind is not None and not behind.waits
+
+    def find_by_others(self, run: Run) -> bool:
+        """What threads have of their own, by a run in which another thread does what any may do."""
+        self.runner.settings["SPBAGS_OTHERS"] = "1"
+        found = self.find_more(run, "another thread does what any may do")
+        del self.runner.settings["SPBAGS_OTHERS"]
+        return found is not None
 
     def find_pairs(self, found: Found) -> None:
         """The pairs of these races: with stacks where another run had the same accesses, and else as they are known."""
@@ -168,7 +182,7 @@ class LaterRuns:
         if not found.races or self.chosen.one_run:
             return None
         try:
-            run = self.runner.looked(found.races, files_of(found.divided), **last_of(found.run))
+            run = self.runner.looked(found.races, files_of(found.divided), last_of(found.run))
             notes = Notes(run.lines())
         except (Failure, OSError) as error:
             self.astray, self.differs = run.faults[0] if run and run.faults else reason_of(error), True
@@ -184,6 +198,8 @@ class LaterRuns:
     def compare(self, run: Run, second: Run, notes: Notes) -> None:
         """Notes of a run that had the same accesses, but did or held something else than the first."""
         first, other = run.words("course"), second.words("course")
+        if notes.narrow or not first or first != other:
+            notes.narrow |= notes.part
         if not first or not other or first == other:
             return
         if not self.astray and run.is_whole():

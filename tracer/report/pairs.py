@@ -57,12 +57,7 @@ class Variable:
     # What the DWARF has of it, or what a block is of.
     whole: Entry | Made | None = None
 
-    def has_bytes(self) -> bool:
-        """Whether it is known which bytes it has."""
-        return self.size is not None
-
     def start(self) -> int:
-        """Where a global begins."""
         return (self.address or 0) - self.offset
 
     def allocation(self) -> Position:
@@ -138,9 +133,13 @@ class Pair:
         return self.variable.identity()
 
     def variable_names(self) -> set[str]:
-        """What a suppression may call the variable."""
         names = {name for name in (self.variable.name, self.variable.expression) if name}
         return names | {f"{self.variable.function}::{name}" for name in names if self.variable.function is not None}
+
+    def names_on_stacks(self) -> set[str]:
+        """Those of functions and of files."""
+        positions = {frame.position for side in self.sides for frame in side.stack}
+        return {name for position in positions for name in (position.function, position.file)}
 
     def lines(self) -> list[tuple[str, int]]:
         return sorted((side.lead().file, side.lead().line) for side in self.sides)

@@ -103,22 +103,12 @@ class Program:
         siblings = self.siblings(noted)
         barrier = missing_barrier(siblings, sides)
         siblings = None if barrier else siblings
+        missing_sync, before = barrier or self.missing_sync(noted, sides), self.guard_name(noted.before)
         for location, races, variable, runs, is_borrowed in self.pieces(noted):
-            yield Pair(
-                races,
-                location,
-                sides,
-                named_by(noted.guard, variable),
-                barrier or self.missing_sync(noted, sides),
-                self.guard(noted.guard, variable),
-                siblings,
-                advice.of_openmp(noted, siblings, variable),
-                noted.is_narrow,
-                is_borrowed,
-                noted.reducer,
-                self.guard_name(noted.before),
-                runs,
-            )
+            named, held = named_by(noted.guard, variable), self.guard(noted.guard, variable)
+            suggested = advice.of_openmp(noted, siblings, variable)
+            more = (suggested, noted.is_narrow, is_borrowed, noted.reducer, before, runs)
+            yield Pair(races, location, sides, named, missing_sync, held, siblings, *more)
 
     def pairs_without_stacks(self, group: Sites) -> Iterator[Pair]:
         """The same of races of which only places are known."""
@@ -134,16 +124,8 @@ class Program:
             size = self.unit if location < checker_answers.FIRST_BYTE else 1
             pieces.add(unit, 1, variable, (variable.offset, variable.offset + size))
         for location, races, variable, runs in pieces.found():
-            yield Pair(
-                races,
-                location,
-                sides,
-                named_by(guard, variable),
-                None,
-                self.guard(guard, variable),
-                neighbours=group.is_narrow(),
-                runs=runs,
-            )
+            named, held = named_by(guard, variable), self.guard(guard, variable)
+            yield Pair(races, location, sides, named, None, held, neighbours=group.is_narrow(), runs=runs)
 
     def complete(self, pair: Pair) -> Pair:
         """With the parts that race, and with what Cilk has for the pair."""
@@ -160,7 +142,6 @@ class Program:
         return pair
 
     def name_parts(self, pair: Pair) -> None:
-        """Of a variable or of a block whose parts are known."""
         variable, whole = pair.variable, pair.variable.whole
         if not whole or pair.reducer or not variable.expression or not variable.size:
             return
@@ -209,16 +190,9 @@ class Program:
         ):
             found = find(code - 1, offset + behind, stretch.address + behind) if code else None
             if found:
-                return Variable(
-                    "local",
-                    self.positions[code][-1].function,
-                    found.name,
-                    found.offset,
-                    found.size,
-                    expression=found.expression,
-                    rest=found.rest,
-                    whole=found.entry,
-                )
+                function, part = self.positions[code][-1].function, (found.expression, found.rest)
+                known = (found.name, found.offset, found.size, None, None, *part)
+                return Variable("local", function, *known, whole=found.entry)
         if stretch.code:
             return Variable("local", self.positions[stretch.code][-1].function)
         return self.named(stretch.address + behind)
@@ -251,13 +225,8 @@ class Program:
         offset, lines = noted.address - block.address, [self.line_of(side.kind, side.stack) for side in noted.sides]
         width, other = (line.width for line in lines)
         fits = width and width == other and block.size % width == offset % width == 0
-        variable = Variable(
-            "heap",
-            offset=offset,
-            size=block.size,
-            element=width if fits else None,
-            stack=self.stack("allocation", block.stack),
-        )
+        stack = self.stack("allocation", block.stack)
+        variable = Variable("heap", offset=offset, size=block.size, element=width if fits else None, stack=stack)
         allocations = [Line(code - 1, source_lines.text_of(position)) for code, position in self.lines_of(block.stack)]
         found = self.heap_types.named(offset, block.size, allocations, lines)
         if found:
@@ -302,14 +271,8 @@ class Program:
         waits = source_lines.leading(self.positions[noted.waits.code]) if noted.waits else None
         if waits and (waits.function != function or (ends and child)):
             waits = None
-        return MissingSync(
-            function,
-            child.of if child else "spawn",
-            spawn.position,
-            continues_at.position,
-            waits,
-            ends and child is None,
-        )
+        construct, at_return = child.of if child else "spawn", ends and child is None
+        return MissingSync(function, construct, spawn.position, continues_at.position, waits, at_return)
 
     def siblings(self, noted: Noted) -> Siblings | None:
         """Two threads of one region, two tasks from one place, or two shares of one loop or of the same sections."""

@@ -80,7 +80,6 @@ class Input:
         os.close(to)
 
     def end(self) -> None:
-        """The run has ended."""
         if self.thread and self.stop is not None:
             os.close(self.stop)
             self.thread.join()

@@ -6,8 +6,9 @@ import struct
 import threading
 import time
 
-# The page that the hooks write: how many spawns and accesses the detector inside has taken.
-TAKEN = struct.Struct("<QQ")
+# The page that the hooks write: how many spawns and accesses the detector inside has taken, and how many locations
+# have raced.
+TAKEN = struct.Struct("<QQQ")
 # So many seconds something is done before a line says so, and between two lines.
 PATIENCE, STEP = 2, 1
 # Makes a line below, remembers the place, and goes there; the rest is the same way back. Behind the program's own text
@@ -29,8 +30,9 @@ class Progress:
     """The line; without a terminal nothing comes of it."""
 
     def __init__(self) -> None:
-        self.lock, self.began, self.more, self.is_shown = threading.Lock(), 0.0, "", False
+        self.lock, self.began, self.is_shown = threading.Lock(), 0.0, False
         self.what: str | None = None
+        self.with_races = ""
         self.thread: threading.Thread | None = None
         # The file that the hooks write, and its page.
         self.file: int | None = None
@@ -40,14 +42,15 @@ class Progress:
             os.truncate(self.file, mmap.PAGESIZE)
             self.page = mmap.mmap(self.file, mmap.PAGESIZE)
 
-    def begin(self, what: str, more: str = "") -> None:
-        """What is done now, and what else is known of it. The first call makes a thread that has this one's signals."""
+    def begin(self, what: str, with_races: str = "", races: int = 0) -> None:
+        """What is done now, and what is to be said behind it where there are races; and as many as are known. The first
+        call makes a thread that has this one's signals."""
         if not self.page:
             return
         self.erase()
         with self.lock:
-            TAKEN.pack_into(self.page, 0, 0, 0)
-            self.what, self.more, self.began = what, more, time.monotonic()
+            TAKEN.pack_into(self.page, 0, 0, 0, races)
+            self.what, self.with_races, self.began = what, with_races, time.monotonic()
         if not self.thread:
             self.thread = threading.Thread(target=self.run, args=(self.page,), daemon=True)
             self.thread.start()
@@ -69,9 +72,11 @@ class Progress:
             with self.lock:
                 seconds = time.monotonic() - self.began
                 if self.what and seconds >= PATIENCE:
-                    _, accesses = TAKEN.unpack_from(page)
-                    parts = [f"{seconds:.0f} s", f"{spelled(accesses)} accesses" if accesses > 0 else "", self.more]
-                    self.write(f"{self.what}: {', '.join(filter(None, parts))}")
+                    _, accesses, races = TAKEN.unpack_from(page)
+                    parts = [f"{seconds:.0f} s"]
+                    parts += [f"{spelled(accesses)} accesses"] if accesses > 0 else []
+                    parts += [f"{spelled(races)} race{'' if races == 1 else 's'}"] if accesses + races > 0 else []
+                    self.write(f"{self.what}{self.with_races if races > 0 else ''}: {', '.join(parts)}")
 
     def write(self, line: str) -> None:
         """This line in place of the one that is shown, or none."""

@@ -14,17 +14,10 @@ if TYPE_CHECKING:
 
 VERSION = 3
 # Of Cilk, of oneTBB and of C++: what a child is one of, where a report suggests nothing of OpenMP.
-NO_OPENMP = {
-    "cilk_for",
-    "parallel_for",
-    "parallel_for_each",
-    "parallel_reduce",
-    "parallel_scan",
-    "parallel_invoke",
-    "parallel_sort",
-    "task_group",
-    "algorithm",
-}
+NO_OPENMP = set(
+    "cilk_for parallel_for parallel_for_each parallel_reduce parallel_scan parallel_invoke parallel_sort task_group "
+    "algorithm".split()
+)
 # The name of what both accesses hold, where that isn't known.
 UNKNOWN_GUARD = "unknown"
 # What stands for a guard where each thread has the variable for itself.

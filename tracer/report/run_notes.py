@@ -125,7 +125,9 @@ class Notes:
     def __init__(self, lines: list[str]) -> None:
         self.pairs: list[Noted] = []
         self.ordered: list[Noted] = []
+        # The units that accesses of races don't fill: where neighbours may race, and where none do in this run.
         self.narrow: set[int] = set()
+        self.part: set[int] = set()
         # The place where the run went another way, and what was there.
         self.astray: tuple[int, str] | None = None
         self.left = self.thread = 0
@@ -140,24 +142,17 @@ class Notes:
             case "pair", races, location, address, meeting, narrow:
                 self.pairs.append(Noted(int(races), int(location), int(address, 16), int(meeting), narrow == "1"))
             case "at" | "other" as name, pair, location, units, address, code, offset, data_code, data_offset:
-                self.pairs[int(pair) - 1].stretches.append(
-                    Stretch(
-                        int(location),
-                        int(units),
-                        int(address, 16),
-                        int(code, 16),
-                        int(offset),
-                        int(data_code, 16),
-                        int(data_offset),
-                        name == "other",
-                    )
-                )
+                frame, data = (int(code, 16), int(offset)), (int(data_code, 16), int(data_offset))
+                found = Stretch(int(location), int(units), int(address, 16), *frame, *data, name == "other")
+                self.pairs[int(pair) - 1].stretches.append(found)
             case "held", pair, first, size:
                 self.pairs[int(pair) - 1].held.append((int(first), int(first) + int(size)))
             case "astray", place, *found:
                 self.astray = int(place), " ".join(found)
             case "narrow", location:
                 self.narrow.add(int(location))
+            case "part", location:
+                self.part.add(int(location))
             case "left", races:
                 self.left = int(races)
             case "thread", address:

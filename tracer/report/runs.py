@@ -26,7 +26,7 @@ MARK, INSIDE = b"SPBAGS_RECORDS", b"SPBAGS_INSIDE"
 PERSONALITY, ADDR_NO_RANDOMIZE = ctypes.CDLL(None).personality, 0x0040000
 MOST_DEPTH = "1000000"
 # What the environment of each run has.
-OWN = "PLACES TRACE REPORT EXITCODE LOOK DIVIDE LAST WAITED PROGRESS HELP ROOM"
+OWN = "PLACES TRACE REPORT EXITCODE LOOK DIVIDE LAST WAITED OTHERS PROGRESS HELP ROOM"
 OURS = [f"SPBAGS_{name}" for name in OWN.split()]
 
 
@@ -118,8 +118,8 @@ class Run:
         self.closed = [record.text for record in records if record.name == "fault" and record.words == ["closed"]]
         self.faults = with_lines(program, texts_of(records, "fault"))
         # What wasn't seen or modelled, in sentences and functions; and of which races some may be none.
-        self.incomplete, self.waits, self.seeming = (
-            with_lines(program, texts_of(records, name)) for name in ("incomplete", "waits", "seeming")
+        self.incomplete, self.waits, self.others, self.seeming = (
+            with_lines(program, texts_of(records, name)) for name in ("incomplete", "waits", "others", "seeming")
         )
         self.unseen = unseen_of(records)
 
@@ -202,11 +202,19 @@ class Runner:
         # What each run gets beside its own files.
         self.files: dict[str, int] = {}
 
-    def execute(self, said: Said, files: dict[str, int], silent: bool, more: str = "", **settings: str) -> Process:
+    def execute(
+        self,
+        said: Said,
+        files: dict[str, int],
+        silent: bool,
+        settings: dict[str, str],
+        races: int = 0,
+        again: bool = False,
+    ) -> Process:
         """Starts the program, whose lines about the run go into a pipe. It gets descriptors of these files, by the
-        variables that name them. The progress says MORE."""
+        variables that name them. It looks at so many races; AGAIN says that another run follows if it finds some."""
         self.number += 1
-        self.progress.begin(f"run {self.number}", more)
+        self.progress.begin(f"run {self.number}", f" of at least {self.number + 1}" if again else "", races)
         shown = {} if self.progress.file is None else {"SPBAGS_PROGRESS": self.progress.file}
         files = {**self.files, **files, **shown}
         given = self.input.begin()
@@ -266,18 +274,22 @@ class Runner:
             return f"the program was ended after {self.limit:.4g} seconds, {why}"
         return f"the program was ended by signal {number} ({signal.strsignal(number)}), which was sent to spbags-run"
 
-    def found(self, keep: str | None, silent: bool, files: dict[str, int], **settings: str) -> Run:
+    def found(
+        self, keep: str | None, silent: bool, files: dict[str, int], settings: dict[str, str], again: bool = False
+    ) -> Run:
         """A run and its report: by the detector inside, or where there is none or the trace is kept, by `spbags check`.
         Where the trace isn't kept, these files go to the program."""
         if keep:
-            return self.kept(keep, silent, **settings)
-        return self.reported(silent, files, **settings) if self.is_inside else self.checked(silent, files, **settings)
+            return self.kept(keep, silent, settings)
+        if self.is_inside:
+            return self.reported(silent, files, settings, again)
+        return self.checked(silent, files, settings)
 
-    def reported(self, silent: bool, files: dict[str, int], **settings: str) -> Run:
+    def reported(self, silent: bool, files: dict[str, int], settings: dict[str, str], again: bool) -> Run:
         """A run whose detector is inside, and its report."""
         said, answer = Said(self.tell), memory_file()
-        program = self.execute(said, {"SPBAGS_REPORT": answer.fileno(), **files}, silent, **settings)
-        run = self.wait(program, said, answer)
+        files = {"SPBAGS_REPORT": answer.fileno(), **files}
+        run = self.wait(self.execute(said, files, silent, settings, again=again), said, answer)
         refuse_broken(run)
         if os.fstat(answer.fileno()).st_size == 0:
             how = run.ending() if run.status < 0 else f"the program ended with status {run.status}"
@@ -289,37 +301,32 @@ class Runner:
         command = [checker(), "check", "--depth", MOST_DEPTH, *self.checking, trace]
         return subprocess.Popen(command, stdin=source, stdout=answer, stderr=faults)
 
-    def kept(self, trace: str, silent: bool, **settings: str) -> Run:
+    def kept(self, trace: str, silent: bool, settings: dict[str, str]) -> Run:
         """A run whose trace and places are kept, and the report."""
         said, answer, faults = Said(self.tell), memory_file(), memory_file()
         checker()
-        settings |= {"SPBAGS_TRACE": trace, "SPBAGS_PLACES": trace + ".places"}
-        run = self.wait(self.execute(said, {}, silent, **settings), said, answer)
+        settings = {**settings, "SPBAGS_TRACE": trace, "SPBAGS_PLACES": trace + ".places"}
+        run = self.wait(self.execute(said, {}, silent, settings), said, answer)
         refuse_broken(run)
         return answered(run, self.check(trace, None, answer, faults), faults)
 
-    def checked(self, silent: bool, files: dict[str, int], **settings: str) -> Run:
+    def checked(self, silent: bool, files: dict[str, int], settings: dict[str, str]) -> Run:
         """A run whose trace goes through a pipe, and the report."""
         said, answer, faults = Said(self.tell), memory_file(), memory_file()
         out, into = os.pipe()
         check = self.check("-", out, answer, faults)
         os.close(out)
-        program = self.execute(said, {"SPBAGS_TRACE": into, **files}, silent, **settings)
+        program = self.execute(said, {"SPBAGS_TRACE": into, **files}, silent, settings)
         os.close(into)
         return answered(self.wait(program, said, answer), check, faults)
 
-    def looked(self, races: list[Race], files: dict[str, int], **settings: str) -> Run:
+    def looked(self, races: list[Race], files: dict[str, int], settings: dict[str, str]) -> Run:
         """A run that looks at the places of these races, and its notes."""
         said, notes = Said(self.tell), memory_file()
+        settings = {"SPBAGS_MAX_BYTES": str(1 << 62), **settings}
         with stops_of(races) as stops:
-            program = self.execute(
-                said,
-                {"SPBAGS_TRACE": notes.fileno(), "SPBAGS_LOOK": stops.fileno(), **files},
-                True,
-                f"{len(races):,} race{'' if len(races) == 1 else 's'}",
-                SPBAGS_MAX_BYTES=str(1 << 62),
-                **settings,
-            )
+            files = {"SPBAGS_TRACE": notes.fileno(), "SPBAGS_LOOK": stops.fileno(), **files}
+            program = self.execute(said, files, True, settings, races=len(races))
         return self.wait(program, said, notes)
 
 

@@ -58,11 +58,8 @@ def fingerprint_of(pair: Pair) -> str:
 
 
 def result_of(pair: Pair, unit: int, seen: collections.Counter[str]) -> Object:
-    said = [
-        text.headline(pair),
-        f"variable {text.variable_line(pair.variable, unit)}",
-        *map(" ".join, text.order_rows(pair)),
-    ]
+    variable = f"variable {text.variable_line(pair.variable, unit)}"
+    said = [text.headline(pair), variable, *map(" ".join, text.order_rows(pair))]
     first, second = pair.sides
     fingerprint = fingerprint_of(pair)
     seen[fingerprint] += 1
@@ -86,21 +83,11 @@ def notifications_of(report: Report) -> list[Object]:
 def as_object(report: Report, version: str) -> Object:
     rules = [{"id": name, "shortDescription": {"text": meaning}, "helpUri": HELP} for name, meaning in RULES.items()]
     seen: collections.Counter[str] = collections.Counter()
-    return {
-        "$schema": SCHEMA,
-        "version": "2.1.0",
-        "runs": [
-            {
-                "tool": {"driver": {"name": "spbags-run", "version": version, "rules": rules}},
-                "originalUriBaseIds": {ROOT: {"uri": uri_of(os.curdir).rstrip("/") + "/"}},
-                "invocations": [
-                    {
-                        "executionSuccessful": True,
-                        "arguments": report.command,
-                        "toolExecutionNotifications": notifications_of(report),
-                    }
-                ],
-                "results": [result_of(pair, report.unit, seen) for pair in report.pairs],
-            }
-        ],
+    told = notifications_of(report)
+    run = {
+        "tool": {"driver": {"name": "spbags-run", "version": version, "rules": rules}},
+        "originalUriBaseIds": {ROOT: {"uri": uri_of(os.curdir).rstrip("/") + "/"}},
+        "invocations": [{"executionSuccessful": True, "arguments": report.command, "toolExecutionNotifications": told}],
+        "results": [result_of(pair, report.unit, seen) for pair in report.pairs],
     }
+    return {"$schema": SCHEMA, "version": "2.1.0", "runs": [run]}

@@ -35,8 +35,6 @@ CONFIRMED = re.compile(r"(?:yes|no ([0-9]+))\n")
 
 
 class Places:
-    """The source lines of a trace's places."""
-
     def __init__(self, program: str, trace: str) -> None:
         name = trace if trace.endswith(".places") else trace + ".places"
         self.program, self.places = program, checker_answers.places_of(name)
@@ -117,7 +115,6 @@ def explain(lines: list[str], places: Places) -> None:
 
 
 def confirm(entry: int | None, places: Places, report: str | None) -> None:
-    """The entry that is no race."""
     print("every entry is a race" if entry is None else f"entry {entry} is no race")
     if entry is None or report is None:
         return
@@ -131,7 +128,6 @@ def confirm(entry: int | None, places: Places, report: str | None) -> None:
 
 
 def answer(lines: list[str], brief: bool, places: Places, report: str | None) -> int:
-    """Shows what this answer says, and gives its status."""
     confirmed = CONFIRMED.fullmatch("".join(lines))
     if confirmed:
         confirm(int(confirmed[1]) if confirmed[1] else None, places, report)

@@ -58,10 +58,12 @@ def names(word: str) -> list[str]:
 
 
 def options() -> argparse.ArgumentParser:
+    # Without a width argparse asks the terminal for it at each option, by a module that takes long.
+    width = None if {"-h", "--help"} & set(sys.argv) else 80
     parser = argparse.ArgumentParser(
         prog="spbags-run",
         description=__doc__,
-        formatter_class=argparse.RawDescriptionHelpFormatter,
+        formatter_class=lambda prog: argparse.RawDescriptionHelpFormatter(prog, width=width),
         usage="spbags-run [options] -- PROGRAM [WORD ..]",
     )
 
@@ -71,12 +73,8 @@ def options() -> argparse.ArgumentParser:
     def value(name: str, metavar: str, told: str, default: object = None, of: Callable[[str], object] = str) -> None:
         parser.add_argument(name, metavar=metavar, default=default, type=of, help=told)
 
-    value(
-        "--shards",
-        "N",
-        "threads of spbags that share the locations, 1 to 64 (default 1, since the program runs too)",
-        "1",
-    )
+    shards = "threads of spbags that share the locations, 1 to 64 (default 1, since the program runs too)"
+    value("--shards", "N", shards, "1")
     value("--most", "N", "show at most N pairs of lines (default 20)", 20, natural)
     flag("--repeats", "write repeats into the trace too")
     value("--keep", "TRACE", "keep the trace in this file, and its places in TRACE.places")
@@ -146,10 +144,12 @@ class Session:
         where there is no other run."""
         keep = self.chosen.keep and os.path.abspath(self.chosen.keep)
         if keep:
-            run = self.runner.found(keep, False, {})
+            run = self.runner.found(keep, False, {}, {})
             return run, open(keep + ".places", "rb")
-        places = disk_file() if self.chosen.one_run else None
-        return self.runner.found(None, False, {"SPBAGS_PLACES": places.fileno()} if places else {}), places
+        if not self.chosen.one_run:
+            return self.runner.found(None, False, {}, {}, again=True), None
+        places = disk_file()
+        return self.runner.found(None, False, {"SPBAGS_PLACES": places.fileno()}, {}), places
 
     def find(self) -> result.Report:
         """The races, and the pairs of source positions. All that the first run found is reported, whatever comes of
@@ -165,10 +165,11 @@ class Session:
             notes = self.notes_of(run)
             self.runner.files = files
             waits = [] if not run.waits or self.later_runs().find_behind(run) else run.waits
-        return self.report(run, notes, run.incomplete + waits)
+            self.runner.files = {}
+        others = [] if not run.others or self.later_runs().find_by_others(run) else run.others
+        return self.report(run, notes, run.incomplete + waits + others)
 
     def later_runs(self) -> LaterRuns:
-        """What later runs say."""
         if not self.later:
             from report.later_runs import LaterRuns
 
@@ -177,11 +178,8 @@ class Session:
 
     def is_silenced(self, function: str) -> bool:
         """Whether --unseen-ok names it; the words of a C++ function needn't be there."""
-        return any(
-            re.fullmatch(source_lines.pattern(name), shape)
-            for name in self.chosen.unseen_ok
-            for shape in (function, function.partition("(")[0])
-        )
+        shapes, patterns = (function, function.partition("(")[0]), map(source_lines.pattern, self.chosen.unseen_ok)
+        return any(re.fullmatch(pattern, shape) for pattern in patterns for shape in shapes)
 
     def notes_of(self, run: runs.Run) -> list[str]:
         """What is to be said of the first run's end; without a race only a whole run has an answer."""
@@ -196,7 +194,6 @@ class Session:
         return notes
 
     def report(self, run: runs.Run, notes: list[str], incomplete: list[str]) -> result.Report:
-        """What was found, without what is left out."""
         chosen, later = self.chosen, self.later
         found, races, without_stacks = (later.pairs, later.races, later.without_stacks) if later else ([], 0, 0)
         ignored = None
@@ -216,9 +213,8 @@ class Session:
             )
         ran = run.words("ran")
         spawns, accesses = (int(ran[0]), int(ran[1])) if ran else (None, None)
-        ended = result.Ended(
-            run.status if run.status >= 0 else None, -run.status if run.status < 0 else None, run.is_whole()
-        )
+        status, signal = (run.status, None) if run.status >= 0 else (None, -run.status)
+        ended = result.Ended(status, signal, run.is_whole())
         return result.Report(
             chosen.command,
             int(self.unit),
@@ -247,16 +243,17 @@ def text_of(found: result.Report, chosen: argparse.Namespace, output: TextIO) ->
     if chosen.json or chosen.sarif:
         import json
 
-        from report import sarif
+        if chosen.sarif:
+            from report import sarif
 
-        return json.dumps(sarif.as_object(found, VERSION) if chosen.sarif else result.as_object(found), indent=1)
+            return json.dumps(sarif.as_object(found, VERSION), indent=1)
+        return json.dumps(result.as_object(found), indent=1)
     if chosen.gen_suppressions:
         return "\n".join(text.suppressions(found.pairs))
     return "\n".join(text.Text(found, has_colours(chosen, output), width()).lines())
 
 
 def width() -> int:
-    """That of what shows the text."""
     if not os.environ.get("COLUMNS") and not os.isatty(1):
         return 120
     import shutil
@@ -265,13 +262,8 @@ def width() -> int:
 
 
 def show(found: result.Report, chosen: argparse.Namespace) -> None:
-    with open(
-        chosen.output or sys.stdout.fileno(),
-        "w",
-        encoding="utf-8",
-        errors="surrogateescape",
-        closefd=bool(chosen.output),
-    ) as output:
+    name = chosen.output or sys.stdout.fileno()
+    with open(name, "w", encoding="utf-8", errors="surrogateescape", closefd=bool(chosen.output)) as output:
         print(text_of(found, chosen, output), file=output)
 
 
@@ -283,21 +275,19 @@ def status_of(found: result.Report, chosen: argparse.Namespace) -> int:
 
 def page_of(found: result.Report | None, chosen: argparse.Namespace) -> str:
     """The report as HTML; without a report, only whether there can be any."""
-    try:
-        # Nothing else needs the folders of the system's packages.
-        import site
+    # Nothing else needs the folders of the system's packages.
+    import site
 
-        site.main()
+    site.main()
+    try:
         from report import html_page
     except ImportError as error:
-        raise Failure(
-            f"--html needs the module {error.name} of Python: apt-get install python3-jinja2 " "python3-pygments"
-        ) from error
+        packages = "apt-get install python3-jinja2 python3-pygments"
+        raise Failure(f"--html needs the module {error.name} of Python: {packages}") from error
     return html_page.page_of(found, status_of(found, chosen)) if found else ""
 
 
 def answer(chosen: argparse.Namespace) -> int:
-    """Shows the report, and gives the status."""
     # What can't be written, or made, is told before the program runs.
     for name in (chosen.output, chosen.html):
         if name:

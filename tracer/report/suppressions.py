@@ -7,13 +7,12 @@ from typing import NamedTuple
 from report import source_lines
 from report.failure import Failure
 from report.pairs import Pair
+from report.result import count
 
 Test = Callable[[Pair], bool]
 
 
 class Used(NamedTuple):
-    """A line, and what it left out."""
-
     line: str
     pairs: int
     races: int
@@ -32,9 +31,9 @@ class Suppressions:
 
     def __init__(self, name: str | None = None) -> None:
         self.tests: dict[str, Test] = {}
-        self.used: dict[str, Used] = {}
+        self.matched: dict[str, list[Pair]] = {}
         self.read(self.OWN)
-        self.own = set(self.used)
+        self.own = set(self.tests)
         if name:
             self.read(name)
 
@@ -44,8 +43,8 @@ class Suppressions:
                 self.take(line.strip(), f"{name}:{number}")
 
     def told(self) -> list[Used]:
-        """What the report says of each line."""
-        return [used for line, used in self.used.items() if used.pairs > 0 or line not in self.own]
+        used = [Used(line, *count(pairs)) for line, pairs in self.matched.items()]
+        return [one for one in used if one.pairs > 0 or one.line not in self.own]
 
     def take(self, line: str, where: str) -> None:
         kind, colon, pattern = line.partition(":")
@@ -54,20 +53,17 @@ class Suppressions:
         test = TESTS[kind](pattern) if kind in TESTS and pattern else None
         if not test:
             raise Failure(f"{where}: expected race:FUNCTION, race:FILE, variable:NAME or pair:FILE:LINE FILE:LINE NAME")
-        self.tests[line] = test
-        self.used[line] = Used(line, 0, 0)
+        self.tests[line], self.matched[line] = test, []
 
     def match(self, pair: Pair) -> bool:
         """Whether a line leaves this out; each that does counts it."""
         lines = [line for line, test in self.tests.items() if test(pair)]
         for line in lines:
-            used = self.used[line]
-            self.used[line] = Used(line, used.pairs + 1, used.races + pair.races)
+            self.matched[line].append(pair)
         return bool(lines)
 
 
 def finder(pattern: str) -> Callable[[str], object]:
-    """What finds a suppression's pattern in a name."""
     inner = pattern[pattern.startswith("^") : len(pattern) - pattern.endswith("$")]
     return re.compile(
         ("^" if pattern.startswith("^") else "") + source_lines.pattern(inner) + ("$" if pattern.endswith("$") else "")
@@ -76,17 +72,7 @@ def finder(pattern: str) -> Callable[[str], object]:
 
 def race_test(pattern: str) -> Test:
     finds = finder(pattern)
-    return lambda pair: any(
-        map(
-            finds,
-            {
-                name
-                for side in pair.sides
-                for frame in side.stack
-                for name in (frame.position.function, frame.position.file)
-            },
-        )
-    )
+    return lambda pair: any(map(finds, pair.names_on_stacks()))
 
 
 def variable_test(pattern: str) -> Test:

@@ -52,8 +52,11 @@ def at_end(text: str, width: int) -> str:
     return text if len(text) <= width else text[: max(width - len(CUT), 0)] + CUT
 
 
+def wrapped(text: str, width: int, first: str = "", indent: str = INDENT) -> list[str]:
+    return textwrap.wrap(text, width, initial_indent=first, subsequent_indent=indent, break_on_hyphens=False)
+
+
 def stacks_of(pair: Pair) -> list[list[Frame]]:
-    """Both as they are shown."""
     is_of_openmp = pair.suggested and not advice.is_of_cilk(pair)
     stacks = [without_regions(side.stack) if is_of_openmp else side.stack for side in pair.sides]
     return [[stack[0]._replace(role=kind_of(stack[0].role, pair)), *stack[1:]] for stack in stacks]
@@ -73,10 +76,7 @@ class Text:
         return f"\033[{colour}m{text}\033[0m" if self.colours else text
 
     def wrapped(self, text: str, colour: str) -> list[str]:
-        return [
-            self.coloured(line, colour)
-            for line in textwrap.wrap(text, self.width, subsequent_indent=INDENT, break_on_hyphens=False)
-        ]
+        return [self.coloured(line, colour) for line in wrapped(text, self.width)]
 
     def lines(self) -> Iterator[str]:
         groups = by_variable(self.report.pairs)
@@ -109,11 +109,8 @@ class Text:
         yield from self.wrapped(headline(pair), "1;31")
         stacks = stacks_of(pair)
         tail = common_tail(*stacks)
-        shown = [
-            row
-            for side, stack in zip(pair.sides, stacks)
-            for row in access_rows(stack[: len(stack) - tail], side.lead())
-        ]
+        own = ((stack[: len(stack) - tail], side.lead()) for side, stack in zip(pair.sides, stacks))
+        shown = [row for stack, lead in own for row in access_rows(stack, lead)]
         if tail > 0:
             shown += [Row(BOTH), *rows(stacks[0][len(stacks[0]) - tail :])]
         owner = allocation_rows(pair.variable.stack) if pair.variable.stack else []
@@ -142,22 +139,18 @@ class Text:
 
     def prose(self, label: str, text: str, width: int) -> list[str]:
         start = f"{INDENT}{label:{width}}{GAP}"
-        return textwrap.wrap(
-            text, self.width, initial_indent=start, subsequent_indent=" " * len(start), break_on_hyphens=False
-        )
+        return wrapped(text, self.width, start, " " * len(start))
 
 
 # ---- What is said of the whole ----
 
 
 def heading(pairs: list[Pair]) -> str:
-    """Of the pairs of one variable."""
     races = many(sum(pair.races for pair in pairs), "location")
     return f"{whole_name(pairs[0].variable)}: {races} in {many(len(pairs), 'pair')} of lines"
 
 
 def left_out_lines(report: Report) -> list[str]:
-    """What wasn't seen or modelled."""
     return [*report.incomplete, *map(unseen_line, report.unseen)]
 
 
@@ -166,11 +159,8 @@ def last_line(report: Report) -> str:
     parts = [f"races {report.races - report.suppressed.races - report.guarded.races}, pairs of lines {shown}"]
     if report.spawns is not None and report.accesses is not None:
         parts[0] += f", {spelled(report.spawns, 'spawn')}, {spelled(report.accesses, 'access')}"
-    for what, left in (
-        ("not shown", report.not_shown),
-        ("suppressed", report.suppressed),
-        ("no data race", report.guarded),
-    ):
+    counts = {"not shown": report.not_shown, "suppressed": report.suppressed, "no data race": report.guarded}
+    for what, left in counts.items():
         if left.pairs > 0:
             parts.append(f"{what}: {many(left.races, 'race')} of {many(left.pairs, 'pair')}")
     guarded_pairs = sum(pair.is_guarded() for pair in report.pairs)
@@ -233,7 +223,6 @@ def owned(variable: Variable, name: str, before: str = "") -> str:
 
 
 def function_named(variable: Variable) -> str:
-    """That of a local."""
     return function_of(source_lines.UNKNOWN._replace(function=variable.function or "?"))
 
 
@@ -288,13 +277,8 @@ def order_rows(pair: Pair) -> list[tuple[str, str]]:
         is_spawn = missing_sync.construct == "spawn"
         said.append(("no sync" if is_spawn else "no order", missing_sync_line(missing_sync) + advised))
     if pair.held_before:
-        said.append(
-            (
-                "lock",
-                f"in this run the later access comes after its thread held {pair.held_before}, which the first "
-                "one holds",
-            )
-        )
+        held = f"in this run the later access comes after its thread held {pair.held_before}, which the first one holds"
+        said.append(("lock", held))
     return said
 
 
@@ -353,9 +337,7 @@ def missing_sync_line(missing_sync: MissingSync) -> str:
 
 def told(what: str, width: int) -> list[str]:
     """A line of `spbags-run`, in rows that are as wide."""
-    return textwrap.wrap(
-        f"spbags-run: {what}", max(width, LEAST_WIDTH), subsequent_indent=INDENT, break_on_hyphens=False
-    )
+    return wrapped(f"spbags-run: {what}", max(width, LEAST_WIDTH))
 
 
 def stack_rows(program: str, codes: list[int]) -> list[str]:

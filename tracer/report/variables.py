@@ -1,14 +1,15 @@
 """The names of variables and of their parts, such as `params[0].flag`, by a program's symbols and its DWARF. What these
 don't tell has no name: a location that the reader doesn't know for sure, or DWARF that can't be read."""
+import functools
 import re
 import struct
 from collections.abc import Callable, Iterator
 from typing import Any, NamedTuple, TypeVar, cast
 
+from elf import HOOKS, UNREADABLE, Elf
 from report import source_lines
 from report.dwarf import Dwarf, Entry, Unit, sleb, uleb
 from report.dwarf_types import Run, Shapes
-from report.elf import UNREADABLE, Elf
 
 
 class Global(NamedTuple):
@@ -58,8 +59,8 @@ ALIGNS = re.compile(
 )
 LONGEST_START, PUSH = 48, re.compile(rb"\x41?[\x50-\x57]")
 OWN = re.compile("__spbags_")
-# The hooks of accesses, by their width in bytes.
-ACCESS = re.compile("__(?:tsan|spbags_(?:block|stack|long))_(?:read|write)([0-9]+)")
+# The name of a hook that is called beside an access ends with how many bytes that has.
+WIDTH = re.compile("_(?:read|write)([0-9]+)$")
 CALL, CALL_SIZE = 0xE8, 5
 OUTLINED = re.compile(r"\._omp_(?:cpy)?fn\.[0-9]+$")
 # The lock of a critical region of OpenMP: gcc's, and clang's, which has one too if the region has no name.
@@ -85,13 +86,10 @@ class Names:
         self.elf = Elf(program)
         self.dwarf = Dwarf(self.elf)
         self.shapes = Shapes(self.dwarf)
-        # The globals by where they are, and the functions and their variables by where the functions begin.
-        self.globals: dict[Storage, Entry | None] = {}
-        self.entries: dict[int, Entry | None] = {}
-        self.variables: dict[int, list[tuple[Storage, int, Entry]]] = {}
-        # The variables of functions and units by their names.
-        self.named_in: dict[int, dict[str | None, list[Entry]]] = {}
-        self.demangled: dict[str, str] = {}
+
+    @functools.cached_property
+    def demangled(self) -> dict[str, str]:
+        return source_lines.demangled(symbol.name for symbol in self.elf.variables.all)
 
     def has_any(self) -> bool:
         return bool(self.dwarf.units)
@@ -101,8 +99,6 @@ class Names:
         found = self.elf.variables.at(address)
         if not found:
             return None
-        if not self.demangled:
-            self.demangled = source_lines.demangled([symbol.name for symbol in self.elf.variables.all])
         return Global(name_of_symbol(self.demangled[found.name]), address - found.start, found.end - found.start)
 
     @readable
@@ -120,19 +116,21 @@ class Names:
     @readable
     def at(self, start: int, offset: int, in_thread: bool = False) -> Named | None:
         """The part of a global that begins here; of a thread's variable its place in the thread's memory is said."""
-        wanted = (THREAD if in_thread else GLOBAL, start)
-        if wanted not in self.globals:
-            text = struct.pack("<BQ", CONSTANT if in_thread else ADDR, start)
-            self.globals[wanted] = self.entry_with(text, lambda entry: wanted in self.places(entry, None))
-        found = self.globals[wanted]
+        found = self.global_in(THREAD if in_thread else GLOBAL, start)
         return self.named(found, offset) if found else None
+
+    @functools.cache
+    def global_in(self, kind: str, start: int) -> Entry | None:
+        text = struct.pack("<BQ", CONSTANT if kind == THREAD else ADDR, start)
+        return self.entry_with(text, lambda entry: (kind, start) in self.places(entry, None))
 
     @readable
     def width(self, code: int) -> int | None:
         """How many bytes the access has whose hook returns to this code."""
-        call = self.elf.code_at(code - CALL_SIZE, CALL_SIZE)
-        hook = self.elf.functions.at(code + struct.unpack("<i", call[1:])[0]) if call and call[0] == CALL else None
-        found = hook and ACCESS.match(hook.name)
+        call, hooks = self.elf.code_at(code - CALL_SIZE, CALL_SIZE), self.elf.sections[HOOKS]
+        to = code + struct.unpack("<i", call[1:])[0] if call and call[0] == CALL else 0
+        hook = self.elf.functions.at(to) if 0 <= to - hooks.address < hooks.size else None
+        found = hook and WIDTH.search(hook.name)
         return int(found[1]) if found else None
 
     def local(self, code: int, kind: str, offset: int) -> Named | None:
@@ -176,23 +174,23 @@ class Names:
     def variables_of(self, code: int) -> list[tuple[Storage, int, Entry]]:
         """The variables of the function with this code, each with a place where it may be, and its size."""
         found = self.elf.functions.at(code)
-        if not found:
-            return []
-        if found.start not in self.variables:
-            function, is_outlined = self.function_with(code), OUTLINED.search(found.name) is not None
-            self.variables[found.start] = list(self.placed(function, function, is_outlined)) if function else []
-        return self.variables[found.start]
+        return self.variables_in(found.start, OUTLINED.search(found.name) is not None) if found else []
+
+    @functools.cache
+    def variables_in(self, start: int, is_outlined: bool) -> list[tuple[Storage, int, Entry]]:
+        function = self.function_at(start)
+        return list(self.placed(function, function, is_outlined)) if function else []
 
     def function_with(self, code: int) -> Entry | None:
-        """The function with this code."""
         found = self.elf.functions.at(code)
-        if found and found.start not in self.entries:
-            start = found.start
-            self.entries[start] = self.entry_with(
-                struct.pack("<Q", start),
-                lambda entry: entry.tag == FUNCTION and self.dwarf.address(entry, LOW_PC) == start,
-            )
-        return self.entries[found.start] if found else None
+        return self.function_at(found.start) if found else None
+
+    @functools.cache
+    def function_at(self, start: int) -> Entry | None:
+        return self.entry_with(
+            struct.pack("<Q", start),
+            lambda entry: entry.tag == FUNCTION and self.dwarf.address(entry, LOW_PC) == start,
+        )
 
     def placed(self, entry: Entry, function: Entry, is_outlined: bool) -> Iterator[tuple[Storage, int, Entry]]:
         for child in self.dwarf.each_child(entry):
@@ -203,8 +201,7 @@ class Names:
                 yield from self.placed(child, function, is_outlined)
 
     def places(self, entry: Entry, function: Entry | None, is_outlined: bool = False) -> set[Storage]:
-        """Where the variable may be."""
-        base = BASES.get(function.blocks.get(FRAME_BASE, b"")) if function else None
+        base = BASES.get(function.value(FRAME_BASE)) if function else None
         found = (
             self.place(expression, entry.unit, base, is_outlined and number == 0, is_outlined)
             for number, expression in enumerate(self.dwarf.expressions(entry))
@@ -243,18 +240,18 @@ class Names:
     def locals_named(self, code: int, name: str) -> list[Entry]:
         """The variables of this name that the function with this code has."""
         function = self.function_with(code)
-        return self.by_name(function, HOLDS_VARIABLES).get(name, []) if function else []
+        return self.by_name(function, *HOLDS_VARIABLES).get(name, []) if function else []
 
     def globals_named(self, code: int, name: str) -> list[Entry]:
         """The same of the unit of compilation."""
         function = self.function_with(code)
-        return self.by_name(self.dwarf.root(function.unit), {NAMESPACE}).get(name, []) if function else []
+        return self.by_name(self.dwarf.root(function.unit), NAMESPACE).get(name, []) if function else []
 
-    def by_name(self, entry: Entry, holders: set[int]) -> dict[str | None, list[Entry]]:
+    @functools.cache
+    def by_name(self, entry: Entry, *holders: int) -> dict[str | None, list[Entry]]:
         """The variables of an entry and of those of these kinds in it."""
-        if entry.at in self.named_in:
-            return self.named_in[entry.at]
-        found, entries = self.named_in.setdefault(entry.at, {}), [entry]
+        found: dict[str | None, list[Entry]] = {}
+        entries = [entry]
         for holder in entries:
             for child in self.dwarf.each_child(holder):
                 if child.tag in (VARIABLE, PARAMETER):

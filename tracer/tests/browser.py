@@ -6,6 +6,7 @@ import json
 import os
 import select
 import shutil
+import signal
 import subprocess
 import sys
 import tempfile
@@ -21,7 +22,8 @@ def is_there():
 
 class Browser:
     def __init__(self):
-        self.folder = tempfile.TemporaryDirectory()
+        # Processes of the browser that outlive it by a moment may still write there.
+        self.folder = tempfile.TemporaryDirectory(ignore_cleanup_errors=True)
         (asked, self.into), (self.out, answered) = os.pipe(), os.pipe()
 
         def prepare():
@@ -31,8 +33,8 @@ class Browser:
         self.process = subprocess.Popen(
             [NAME, "--headless=new", "--no-sandbox", "--disable-gpu", "--disable-dev-shm-usage", "--no-first-run",
              "--remote-debugging-pipe", f"--user-data-dir={self.folder.name}", "about:blank"],
-            preexec_fn=prepare, close_fds=False, stdin=subprocess.DEVNULL, stdout=subprocess.DEVNULL,
-            stderr=subprocess.DEVNULL)
+            preexec_fn=prepare, close_fds=False, start_new_session=True, stdin=subprocess.DEVNULL,
+            stdout=subprocess.DEVNULL, stderr=subprocess.DEVNULL)
         os.close(asked)
         os.close(answered)
         self.number, self.rest, self.events, self.session = 0, b"", [], None
@@ -99,7 +101,7 @@ class Browser:
                      text=text if kind == "keyDown" else "")
 
     def close(self):
-        self.process.terminate()
+        os.killpg(self.process.pid, signal.SIGKILL)
         self.process.wait()
         os.close(self.into)
         os.close(self.out)

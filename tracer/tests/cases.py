@@ -6,6 +6,7 @@ import collections
 import contextlib
 import functools
 import glob
+import hashlib
 import json
 import os
 import re
@@ -28,6 +29,9 @@ DETECTOR = [] if INSIDE else ["--trace"]
 # What is left out so isn't counted: tracer/check counts a detector that it wants and that isn't there.
 WITHOUT_DETECTOR = "the program has no detector"
 needs_detector = unittest.skipUnless(INSIDE, WITHOUT_DETECTOR)
+# What is compiled without a level of its own is tried with the first one.
+WITHOUT_LEVEL = "it is the same with each level"
+once_of_levels = unittest.skipUnless(LEVEL == "-O1", WITHOUT_LEVEL)
 SPBAGS_CC, SPBAGS_CPLUSPLUS, SPBAGS_RUN, SPBAGS_LINES = (
     os.path.join(TRACER, name) for name in ("spbags-cc", "spbags-c++", "spbags-run", "spbags-lines"))
 Done = collections.namedtuple("Done", "status out errors")
@@ -61,7 +65,7 @@ def own_programs():
 def kept_program(*command):
     """Where a program is, or is to be, that is compiled so."""
     made_by = [os.environ.get(name, "") for name in ("CC", "SPBAGS_CXX")]
-    name = " ".join([*made_by, *DETECTOR, *command]).replace("/", "|")
+    name = hashlib.sha256(" ".join([*made_by, *DETECTOR, *command]).encode()).hexdigest()
     return os.path.join(os.environ.get("PROGRAMS") or own_programs().name, name)
 
 
@@ -233,10 +237,10 @@ class TracerTest(unittest.TestCase):
         self.succeeds(compiler, "-w", "-o", "texts", source, *options)
         self.assertEqual(self.run_command("./plain"), self.run_command("./texts", SPBAGS_TRACE="run.trace"))
 
-    def build(self, name, source, *words):
+    def build(self, name, source, *words, compiler=""):
         """A program under this name, which is compiled once for all tests that have it; or a new one, where the source
         is of this folder, since its debug information names that."""
-        command = (compiler_of(source), *words, source)
+        command = (compiler or compiler_of(source), *words, source)
         kept = kept_program(*command)
         is_kept = os.path.isabs(source)
         if is_kept and os.path.exists(kept):
@@ -437,7 +441,7 @@ class Count(unittest.TestResult):
 
     def addSkip(self, test, reason):
         super().addSkip(test, reason)
-        if reason != WITHOUT_DETECTOR:
+        if reason not in (WITHOUT_DETECTOR, WITHOUT_LEVEL):
             self.lacking += 1
             print(f"{test}: skipped: {reason}", file=sys.stderr)
 

@@ -121,6 +121,11 @@ CASE(*AS(int, big) = 6, W(big, 0, 4))
 #pragma clang attribute pop
 #endif
 
+/* ---- Functions that are said only to read, whose results nobody uses ---- */
+static __attribute__((pure)) int only_reads(int *at); /* on one line with its read */
+CASE(only_reads(AS(int, big)), R(big, 0, 4)) static int only_reads(int *at) { return *at; }
+static __attribute__((const)) int reads_nothing(int *at) { return *at; } CASE(reads_nothing(AS(int, big)), R(big, 0, 4))
+
 /* ---- Atomic ---- */
 #define ATOMIC_INT AS(_Atomic int, big)
 CASE(*ATOMIC_INT = 3, W(big, 0, 4)) CASE(sink = *ATOMIC_INT, R(big, 0, 4)) CASE(*ATOMIC_INT += 3, W(big, 0, 4))
@@ -145,6 +150,8 @@ CASE((__builtin_memcpy)(big, other, 40), R(other, 0, 40), W(big, 0, 40)) CASE(((
 #ifdef __clang__
 CASE(__builtin_memcpy_inline(big, other, 16), R(other, 0, 16), W(big, 0, 16)) CASE((__builtin_memcpy_inline)(big, other, 8), R(other, 0, 8), W(big, 0, 8))
 #else
+CASE(__builtin_ia32_fnstenv(big), W(big, 0, 28))
+CASE(char own[28]; __builtin_ia32_fnstenv(own); __builtin_ia32_fldenv(big); __builtin_ia32_fldenv(own), R(big, 0, 28))
 CASE((__builtin_ia32_movnti)(AS(int, big), 3), W(big, 0, 4)) CASE((( __builtin_ia32_movnti64 ))(AS(long long, big), 3), W(big, 0, 8))
 #endif
 

@@ -199,7 +199,7 @@ struct piece {
 /* A variable of the library, written: what stands behind it is another one. */
 #define G(BASE, ...) {'G', &BASE, __VA_ARGS__}
 
-enum { MOST_PIECES = 8, MOST_CASES = 1000 };
+enum { MOST_PIECES = 8 };
 
 struct test {
     void (*call)(void);
@@ -208,34 +208,40 @@ struct test {
     struct piece pieces[MOST_PIECES];
 };
 
-static struct test tests[MOST_CASES];
-static int count;
+/* The linker puts all that stand in this section one behind the other. */
+extern const struct test __start_tests[], __stop_tests[];
 
 #define CASE_OF(NAME, LINE, CALL, ...) \
     static void NAME(void) { CALL; } \
-    __attribute__((constructor)) static void add_##NAME(void) { \
-        tests[count++] = (struct test){NAME, __FILE__, LINE, {__VA_ARGS__}}; \
+    __attribute__((section("tests"), aligned(8), used)) static struct test test_of_##NAME = { \
+        NAME, __FILE__, LINE, {__VA_ARGS__}};
+/* Where a number of bytes is known at run time alone. */
+#define LATE_OF(NAME, LINE, CALL, ...) \
+    static void NAME(void) { CALL; } \
+    __attribute__((section("tests"), aligned(8), used)) static struct test test_of_##NAME; \
+    __attribute__((constructor)) static void fill_##NAME(void) { \
+        test_of_##NAME = (struct test){NAME, __FILE__, LINE, {__VA_ARGS__}}; \
     }
 /* What two calls share inside. */
-static struct shared {
+struct shared {
     void (*call)(void), (*other)(void);
     const char *file;
     int line, bytes;
-} shared[100];
-static int shared_count;
+};
+extern const struct shared __start_shares[], __stop_shares[];
 
 #define SHARED_OF(NUMBER, BYTES, CALL, OTHER) \
     static void shared_##NUMBER(void) { CALL; } \
     static void other_##NUMBER(void) { OTHER; } \
-    __attribute__((constructor)) static void share_##NUMBER(void) { \
-        shared[shared_count++] = (struct shared){shared_##NUMBER, other_##NUMBER, __FILE__, __LINE__, BYTES}; \
-    }
+    __attribute__((section("shares"), aligned(8), used)) static const struct shared share_of_##NUMBER = { \
+        shared_##NUMBER, other_##NUMBER, __FILE__, __LINE__, BYTES};
 #define SHARED_AT(NUMBER, BYTES, CALL, OTHER) SHARED_OF(NUMBER, BYTES, CALL, OTHER)
 #define SHARED(BYTES, CALL, OTHER) SHARED_AT(__COUNTER__, BYTES, CALL, OTHER)
 
-#define NAMED(NUMBER, CALL, ...) CASE_OF(case_##NUMBER, __LINE__, CALL, __VA_ARGS__)
-#define AT(NUMBER, CALL, ...) NAMED(NUMBER, CALL, __VA_ARGS__)
-#define CASE(CALL, ...) AT(__COUNTER__, CALL, __VA_ARGS__)
+#define NAMED(OF, NUMBER, CALL, ...) OF(case_##NUMBER, __LINE__, CALL, __VA_ARGS__)
+#define AT(OF, NUMBER, CALL, ...) NAMED(OF, NUMBER, CALL, __VA_ARGS__)
+#define CASE(CALL, ...) AT(CASE_OF, __COUNTER__, CALL, __VA_ARGS__)
+#define LATE(CALL, ...) AT(LATE_OF, __COUNTER__, CALL, __VA_ARGS__)
 
 CASE(memcpy(a, b, 7), R(b, 0, 7), W(a, 0, 7))
 CASE(memmove(a, b, 7), R(b, 0, 7), W(a, 0, 7))
@@ -505,13 +511,12 @@ int main(int words_given, char **word) {
     socketpair(AF_UNIX, SOCK_STREAM, 0, sockets);
     char many[ROOM * 1000] = {0};
     send(sockets[1], many, sizeof many, 0);
-    for (int at = 0; at < count; at++)
-        fprintf(listing, "%d %s:%d\n", races_of(&tests[at]), tests[at].file, tests[at].line);
-        fflush(listing);
-    for (int at = 0; at < shared_count; at++) {
-        share(&shared[at]);
-        fprintf(listing, "%d %s:%d %s:%d\n", shared[at].bytes, shared[at].file, shared[at].line, shared[at].file,
-                shared[at].line);
+    for (const struct test *test = __start_tests; test < __stop_tests; test++)
+        fprintf(listing, "%d %s:%d\n", races_of(test), test->file, test->line);
+    fflush(listing);
+    for (const struct shared *both = __start_shares; both < __stop_shares; both++) {
+        share(both);
+        fprintf(listing, "%d %s:%d %s:%d\n", both->bytes, both->file, both->line, both->file, both->line);
     }
     fclose(listing);
 }

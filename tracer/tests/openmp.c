@@ -336,6 +336,108 @@ static void reaches_local(int iterations) {
 static void reaches_local_often(void) { reaches_local(8); }
 static void reaches_local_once(void) { reaches_local(2); }
 
+/* One thread accesses a variable of the first one in a construct, by a pointer. Then the first thread does so, or all
+   others, or the first one behind a barrier. Or the construct's thread accesses its own variable. */
+enum construct { SINGLE, TWO_SINGLES, SECTION, ONE_ITERATION, MASTER, TASK };
+enum reacher { FIRST, OTHERS, AFTER_BARRIER, OWN };
+
+static void construct(enum construct way, int *at) {
+    switch (way) {
+    case TWO_SINGLES:
+#pragma omp single nowait
+        ++*at; /* [in other single] */
+        /* fallthrough */
+    case SINGLE:
+#pragma omp single nowait
+        ++*at; /* [in single] */
+        break;
+    case SECTION:
+#pragma omp sections nowait
+        { ++*at; } /* [in section] */
+        break;
+    case ONE_ITERATION:
+#pragma omp for nowait
+        for (int i = 0; i < 1; i++)
+            ++*at; /* [in iteration] */
+        break;
+    case MASTER:
+#pragma omp master
+        ++*at; /* [in master] */
+        break;
+    case TASK:
+#pragma omp single nowait
+#pragma omp task
+        ++*at; /* [in task] */
+    }
+}
+
+static void reach(enum construct way, enum reacher reacher) {
+#pragma omp parallel num_threads(2)
+    {
+        int local = 0;
+#pragma omp master
+        of_master = &local;
+#pragma omp barrier
+        construct(way, reacher == OWN ? &local : of_master);
+        if (reacher == AFTER_BARRIER) {
+#pragma omp barrier
+        }
+        if ((of_master == &local) == (reacher != OTHERS) && way != TWO_SINGLES)
+            ++*of_master; /* [beside construct] */
+#pragma omp barrier
+#pragma omp master
+        row[0] = local;
+    }
+}
+
+static void single_first(void) { reach(SINGLE, FIRST); }
+static void single_others(void) { reach(SINGLE, OTHERS); }
+static void single_before(void) { reach(SINGLE, AFTER_BARRIER); }
+static void single_own(void) { reach(SINGLE, OWN); }
+static void two_singles(void) { reach(TWO_SINGLES, FIRST); }
+static void section_first(void) { reach(SECTION, FIRST); }
+static void section_others(void) { reach(SECTION, OTHERS); }
+static void iteration_first(void) { reach(ONE_ITERATION, FIRST); }
+static void iteration_others(void) { reach(ONE_ITERATION, OTHERS); }
+static void iteration_own(void) { reach(ONE_ITERATION, OWN); }
+static void master_first(void) { reach(MASTER, FIRST); }
+static void master_others(void) { reach(MASTER, OTHERS); }
+static void task_first(void) { reach(TASK, FIRST); }
+static void task_others(void) { reach(TASK, OTHERS); }
+
+/* A share that accesses nothing of the kind stands between both. */
+static void across_loop(void) {
+#pragma omp parallel num_threads(2)
+    {
+        int local = 0;
+#pragma omp master
+        of_master = &local;
+#pragma omp barrier
+        if (of_master == &local)
+            ++*of_master; /* [before loop] */
+#pragma omp for nowait
+        for (int i = 0; i < 4; i++)
+            counts[i]++;
+        if (of_master != &local)
+            ++*of_master; /* [behind loop] */
+#pragma omp barrier
+#pragma omp master
+        row[0] = local;
+    }
+}
+
+/* The task is another thread's, or this one's but later. */
+static void task_of_single(void) {
+#pragma omp parallel num_threads(2)
+    {
+        int local = 0;
+#pragma omp single nowait
+#pragma omp task shared(local)
+        local++;
+        local++; /* [beside task of single] */
+    }
+}
+
 static void reaches_own(void) {
     of_master = &mine;
 #pragma omp parallel num_threads(2)
@@ -638,6 +740,22 @@ int main(int count, char **words) {
                 {"sums_section", sums_section, true},
                 {"reaches_local_often", reaches_local_often, true},
                 {"reaches_local_once", reaches_local_once, true},
+                {"single_first", single_first, true},
+                {"single_others", single_others, true},
+                {"single_before", single_before, true},
+                {"single_own", single_own, true},
+                {"two_singles", two_singles, true},
+                {"section_first", section_first, true},
+                {"section_others", section_others, true},
+                {"iteration_first", iteration_first, true},
+                {"iteration_others", iteration_others, true},
+                {"iteration_own", iteration_own, true},
+                {"master_first", master_first, true},
+                {"master_others", master_others, true},
+                {"task_first", task_first, true},
+                {"task_others", task_others, true},
+                {"across_loop", across_loop, true},
+                {"task_of_single", task_of_single, true},
                 {"reaches_own", reaches_own, true},
                 {"reaches_own_in_loop", reaches_own_in_loop, true},
                 {"copies_own", copies_own, true},

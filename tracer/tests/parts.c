@@ -51,6 +51,7 @@ void look_at_block(uintptr_t block, size_t size, uint64_t dead, uintptr_t stack_
 void look_at_structure(void) {}
 void look_at_access(bool writes, uint64_t location) { (void)writes, (void)location; }
 void look_forget_pending(void) {}
+void look_note_part(uint64_t location, unsigned bytes) { (void)location, (void)bytes; }
 uint64_t look_blocks[(1 << LOOK_BLOCK_BITS) / 64], look_place_now, look_next_place, *places_site_keys;
 uint16_t *places_site_numbers;
 struct places_newest places_newest;

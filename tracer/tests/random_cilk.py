@@ -1,8 +1,9 @@
 #!/usr/bin/env python3
 """Random Cilk programs, traced and judged. Each is written twice: as a program in C for spbags-cc, and as one that
 tells judge.h what it does, which says by definition which variables race. Their names have to be those of the locations
-that `spbags check` reports of the trace, with repeats and without, and both reports have to name the same locations
-if memory doesn't come again; if it does, what dies in its strand isn't in the trace, and the names are the same.
+that `spbags check` reports of the trace at each level of optimization, with repeats and without, and both reports have to
+name the same locations if memory doesn't come again; if it does, what dies in its strand isn't in the trace, and the
+names are the same.
 With --c++ they are of C++, and spawn members, lambdas, templates, what is handed over by reference and what throws.
 
     random_cilk.py [--count 200] [--seed 1] [--c++]
@@ -28,6 +29,7 @@ SPBAGS = os.path.realpath(os.environ.get("SPBAGS", os.path.join(TRACER, "..", "s
 # Only gcc traces reducers.
 REDUCER = "" if "clang" in os.environ.get("CC", "") else "cilk_reducer(zero, add)"
 BATCH, GLOBALS, MOST_STEPS = 25, 4, 400
+LEVELS = "-O1", "-O0"
 WAYS = {}, {"SPBAGS_REUSE": "0"}, {"SPBAGS_REUSE": "0", "SPBAGS_REPEATS": "1"}
 # Of a loop with two iterations, with the numbers 0 and 1.
 HEADERS = ("int i = 0; i < 2; i++", "long i = 1; i >= 0; --i", "unsigned i = 0; 2 != i; i += 1", "short i = 1; i > -1; i -= 1")
@@ -448,22 +450,23 @@ class Batch:
 
     def build(self):
         batch = self.numbers[0] // BATCH
-        ways = ("-O1", "-O0")[batch % 2], *[[], ["--no-inline-checks"]][batch // 2 % 2]
-        limits = " -DFREE_SPANS=0" + ("", " -DSTRAND_MOST_BLOCKS=3 -DPERIOD_SHIFT=61")[batch // 4 % 2]
-        self.run(os.path.join(TRACER, self.compiler), *DETECTOR, *ways, "-w", "-o", self.name,
-                 self.name + self.ending, CC=os.environ.get("CC", "gcc") + limits)
+        ways = ([], ["--no-inline-checks"])[batch % 2]
+        limits = " -DFREE_SPANS=0" + ("", " -DSTRAND_MOST_BLOCKS=3 -DPERIOD_SHIFT=61")[batch // 2 % 2]
+        for level in LEVELS:
+            self.run(os.path.join(TRACER, self.compiler), *DETECTOR, level, *ways, "-w", "-o", self.name + level,
+                     self.name + self.ending, CC=os.environ.get("CC", "gcc") + limits)
         self.run("gcc" if not os.environ.get("CC") else os.environ["CC"], "-w", "-O1", "-I" + HERE, "-o",
                  self.name + "_judged", self.name + "_judged.c")
         told = self.run(self.name + "_judged")
         self.wanted = {int(words[0]): collections.Counter(words[1:]) for words in map(str.split, told.splitlines())}
 
-    def racy(self, number, way):
+    def racy(self, program, number, way):
         """The racy locations of a traced run, and the code of the first access of each."""
         trace = f"{self.name}.{number}"
         settings = {**way, "SPBAGS_VERSION": str(1 + number % 2)}
-        self.run(self.name, str(number), SPBAGS_TRACE=trace, SPBAGS_REPORT="", **settings)
+        self.run(program, str(number), SPBAGS_TRACE=trace, SPBAGS_REPORT="", **settings)
         report = self.run(SPBAGS, "check", trace)
-        if INSIDE and report != self.own_report(number, trace[:-1] + "~", settings):
+        if INSIDE and report != self.own_report(program, number, trace[:-1] + "~", settings):
             print(f"program {number}: the report of the detector inside isn't the checker's", file=sys.stderr)
             self.differ.add(number)
         racy = {line.split()[1] for line in report.splitlines()[1:]}
@@ -479,34 +482,37 @@ class Batch:
         os.remove(trace + ".places")
         return codes
 
-    def own_report(self, number, name, settings):
+    def own_report(self, program, number, name, settings):
         """That of the detector inside. The environment is as long as in the traced run: the program's words lie before
         it."""
-        self.run(self.name, str(number), SPBAGS_TRACE="", SPBAGS_REPORT=name, **settings)
+        self.run(program, str(number), SPBAGS_TRACE="", SPBAGS_REPORT=name, **settings)
         with open(name, encoding="ascii") as file:
             return file.read()
 
-    def names(self, codes):
+    def names(self, program, codes):
         """By code the variable whose first access it is."""
         ordered = sorted(codes)
         if not ordered:
             return {}
-        lines = self.run("addr2line", "-e", self.name, *map(hex, ordered)).splitlines()
+        lines = self.run("addr2line", "-e", program, *map(hex, ordered)).splitlines()
         numbers = [int(line.split(" ")[0].rpartition(":")[2]) for line in lines]
         return {code: self.tags.get(line, f"line {line}") for code, line in zip(ordered, numbers)}
 
     def wrong(self):
-        """The numbers of the programs whose races aren't those that the judge names."""
+        """The numbers of the programs whose races aren't those that the judge names, at each level."""
         self.build()
-        runs = {number: [self.racy(number, way) for way in WAYS] for number in self.numbers}
-        names = self.names({code for run in runs.values() for codes in run for code in codes.values()})
-        wrong = []
+        return self.differ.union(*map(self.wrong_at, LEVELS))
+
+    def wrong_at(self, level):
+        program, wrong = self.name + level, []
+        runs = {number: [self.racy(program, number, way) for way in WAYS] for number in self.numbers}
+        names = self.names(program, {code for run in runs.values() for codes in run for code in codes.values()})
         for number, (left_out, codes, all_codes) in runs.items():
             found = [collections.Counter(names[code] for code in run.values()) for run in (left_out, codes)]
             if found != 2 * [self.wanted[number]] or codes != all_codes:
-                print(f"program {number}: wanted {dict(self.wanted[number])}, found {found}", file=sys.stderr)
+                print(f"program {number} {level}: wanted {dict(self.wanted[number])}, found {found}", file=sys.stderr)
                 wrong.append(number)
-        return self.differ.union(wrong)
+        return wrong
 
 
 def main():

@@ -2,12 +2,12 @@
 """Random OpenMP programs, traced and judged. Each is a parallel region that is written as C for spbags-cc, and run by a
 model of its own: that does what each thread does, keeps the dag of the strands with all its paths, and says by
 definition which variables race. The model knows nothing of traces, bags or stacks; their names have to be those of the
-locations that `spbags check` reports. If accesses are under critical regions, locks or atomic, and all races of a
-variable are of two under one of these, or none is, then `spbags-run` has to say so. With `depend` a program is judged
-twice, by SPBAGS_DEPEND=order and =ignore, and what the program itself has must be between both. Where tasks outlive a
-taskwait the run after the first must find the rest.
+locations that `spbags check` reports at each level of optimization. If accesses are under critical regions, locks or
+atomic, and all races of a variable are of two under one of these, or none is, then `spbags-run` has to say so. With
+`depend` a program is judged twice, by SPBAGS_DEPEND=order and =ignore, and what the program itself has must be between
+both. Where tasks outlive a taskwait the run after the first must find the rest. With --c++ they are compiled as C++.
 
-    random_openmp.py [--count 200] [--seed 1]
+    random_openmp.py [--count 200] [--seed 1] [--c++]
 
 SPBAGS names the checker. INSIDE is set if the programs have the detector inside; then its report of each run has to be
 the checker's. The last line says how many programs it tried and how many of them were wrong."""
@@ -25,6 +25,7 @@ sys.dont_write_bytecode = True
 from cases import DETECTOR, INSIDE
 SPBAGS = os.path.realpath(os.environ.get("SPBAGS", os.path.join(TRACER, "..", "spbags")))
 BATCH, GLOBALS, MANY, SLOTS = 25, 4, 16, 16
+LEVELS = "-O1", "-O0"
 
 HEAD = """\
 #include <omp.h>
@@ -465,8 +466,9 @@ class Writer:
 class Batch:
     """Some programs in one file."""
 
-    def __init__(self, folder, first, count, seed):
+    def __init__(self, folder, first, count, seed, is_cplusplus):
         self.name = os.path.join(folder, f"b{first}")
+        self.compiler, self.ending = ("spbags-c++", ".cpp") if is_cplusplus else ("spbags-cc", ".c")
         self.writers = [Writer(number, random.Random(f"{seed} {number}")) for number in range(first, first + count)]
         lines = HEAD.splitlines()
         for writer in self.writers:
@@ -475,7 +477,7 @@ class Batch:
         calls = " ".join(f"case {writer.number}: p{writer.number}(); break;" for writer in self.writers)
         lines.append("int main(int count, char **words) { omp_init_lock(locks); omp_init_lock(locks + 1); "
                      f"switch (atoi(words[1])) {{ {calls} }} }}")
-        with open(self.name + ".c", "w", encoding="utf-8") as file:
+        with open(self.name + self.ending, "w", encoding="utf-8") as file:
             file.write("\n".join(lines) + "\n")
 
     def run(self, *words, statuses=(0,), files=None, **settings):
@@ -487,12 +489,11 @@ class Batch:
             sys.exit(f"random_openmp.py: {' '.join(words)}: {done.stderr}")
         return done.stdout
 
-    def build(self):
-        level = ("-O1", "-O0")[self.writers[0].number // BATCH % 2]
-        self.run(os.path.join(TRACER, "spbags-cc"), *DETECTOR, "-fopenmp", level, "-w", "-o", self.name,
-                 self.name + ".c")
-        symbols = map(str.split, self.run("nm", self.name).splitlines())
-        self.addresses = {words[2]: int(words[0], 16) for words in symbols if len(words) == 3}
+    def build(self, level):
+        self.run(os.path.join(TRACER, self.compiler), *DETECTOR, "-fopenmp", level, "-w", "-o", self.name,
+                 self.name + self.ending)
+        symbols = map(str.split, self.run("nm", "-C", self.name).splitlines())
+        self.addresses = {words[2]: int(words[0], 16) for words in symbols if words[1:2] == ["b"]}
 
     def names(self, writer):
         """By location. All of the stack is the local variable."""
@@ -551,7 +552,8 @@ class Batch:
         ways, self.differing = ("order", "ignore") if writer.has_depend else ("ignore",), []
         wanted, runs = [sorted(writer.racy(way)) for way in ways], [self.found(writer, way) for way in ways]
         found, (_, both, sees_all, again) = [first for first, *_ in runs], runs[0]
-        self.again += again
+        if again:
+            self.again.add(writer.number)
         own, outliving = set(writer.racy(None)), set(writer.racy("outliving"))
         if not both <= outliving or sees_all and not outliving <= both:
             yield f"with tasks that outlive others it has {sorted(outliving)}, found {sorted(both)}, all: {sees_all}"
@@ -567,14 +569,17 @@ class Batch:
             yield f"the guards of {names}"
 
     def wrong(self):
-        """The programs whose races aren't those that the model names."""
-        self.build()
+        """The programs whose races aren't those that the model names, at each level."""
+        self.racy, self.again = sum(bool(writer.racy(None)) for writer in self.writers), set()
+        return set().union(*map(self.wrong_at, LEVELS))
+
+    def wrong_at(self, level):
+        self.build(level)
         wrong = []
-        self.racy, self.again = sum(bool(writer.racy(None)) for writer in self.writers), 0
         for writer in self.writers:
             if faults := list(self.faults(writer)):
                 print("\n".join(writer.lines), file=sys.stderr)
-                print(f"program {writer.number}: {'; '.join(faults)}", file=sys.stderr)
+                print(f"program {writer.number} {level}: {'; '.join(faults)}", file=sys.stderr)
                 wrong.append(writer.number)
         return wrong
 
@@ -583,14 +588,15 @@ def main():
     parser = argparse.ArgumentParser(description=__doc__, formatter_class=argparse.RawDescriptionHelpFormatter)
     for name, value in (("count", 200), ("seed", 1)):
         parser.add_argument("--" + name, type=int, default=value)
+    parser.add_argument("--c++", action="store_true", dest="is_cplusplus")
     words = parser.parse_args()
     wrong, racy, again = 0, 0, 0
     with tempfile.TemporaryDirectory(prefix="spbags-random-") as folder:
         for first in range(0, words.count, BATCH):
-            batch = Batch(folder, first, min(BATCH, words.count - first), words.seed)
+            batch = Batch(folder, first, min(BATCH, words.count - first), words.seed, words.is_cplusplus)
             wrong += len(batch.wrong())
             racy += batch.racy
-            again += batch.again
+            again += len(batch.again)
     print(f"{words.count} programs, {racy} with races, {again} with a run behind taskwaits, {wrong} wrong")
     return 1 if wrong or not racy else 0
 

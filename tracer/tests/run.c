@@ -270,6 +270,14 @@ static void of_doubles(void) {
         doubles[i] = 2; /* [doubles] */
 }
 
+/* A byte of a unit that nothing else reaches, but for what fills it. */
+static void of_a_byte_alone(void) {
+    run_number();
+    memset((char *)letters + 4, 0, 4);
+    cilk_spawn set_letter(5); /* [spawn byte] */
+    set_letter(5); /* [calls byte] */
+}
+
 /* Another race in the first run than in later ones. */
 static void of_a_file_of_others(void) {
     if (is_first())
@@ -327,7 +335,7 @@ static const struct {
     {"small disk", of_a_small_disk}, {"more neighbours", of_more_neighbours}, {"flags", of_flags},
     {"doubles", of_doubles}, {"letters file", of_a_file_of_letters}, {"fourth", of_a_fourth_run},
     {"others file", of_a_file_of_others}, {"locks file", of_a_file_of_locks}, {"file alone", of_a_file_alone},
-    {"one strand", of_one_strand},
+    {"one strand", of_one_strand}, {"byte alone", of_a_byte_alone},
 };
 
 /* Runs those that the words name, and ends with their number. */

@@ -38,8 +38,10 @@ static const uint8_t kinds[RECORDS] = {SPBAGS_SPAWN, SPBAGS_WRITE, SPBAGS_RETURN
 
 static void step_by_step(void *session, uint64_t location) {
     expect("a kind that no record has", SPBAGS_UNKNOWN_KIND, spbags_step(session, SPBAGS_WRITE + 8, location));
-    for (int at = 0; at < RECORDS; at++)
+    for (int at = 0; at < RECORDS; at++) {
         expect("a step", SPBAGS_TAKEN, spbags_step(session, kinds[at], location));
+        expect("the races so far", at >= 3, (uint8_t)spbags_race_count(session));
+    }
     expect("a step after the end", SPBAGS_AFTER_END, spbags_step(session, SPBAGS_SYNC, 0));
 }
 
@@ -86,6 +88,7 @@ static void print_report(void (*run)(void *session, uint64_t location), uint64_t
     for (uint16_t byte; (byte = spbags_next(session)) < SPBAGS_AT_END;)
         putchar(byte);
     expect("a step after the report", SPBAGS_GIVEN, spbags_step(session, SPBAGS_SYNC, 0));
+    expect("the races of no records", 0, (uint8_t)spbags_race_count(session));
     spbags_free(session);
     free(session);
     if (live_blocks != 0)

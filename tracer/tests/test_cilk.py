@@ -53,6 +53,20 @@ int main(void) {
     cilk_sync;
 }
 """
+# Each child is as the other, and with its option gcc would make one of both.
+ALIKE = """#include <cilk/cilk.h>
+static int cells[2];
+static void put(int *at) { *at = 1; }
+static void put_same(int *at) { *at = 1; }
+void (*volatile children[])(int *) = {put, put_same};
+int main(void) {
+    for (int at = 0; at < 2; at++)
+        cilk_spawn children[at](cells + at);
+    cells[0] = 2;
+    cells[1] = 2;
+    cilk_sync;
+}
+"""
 CALLER = """#include <cilk/cilk.h>
 int index(int *at);
 static int x;
@@ -113,6 +127,11 @@ class TraceTest(TracerTest):
         self.succeeds(SPBAGS_CC, "-w", "-o", "endless", "endless.c")
         self.assertEqual(cases.as_races([(1, 4, 5)]), self.races_in("endless.c", "./endless"))
 
+    def test_alike(self):
+        self.write("alike.c", ALIKE)
+        self.succeeds(SPBAGS_CC, *["-fipa-icf"] * (CC == "gcc"), "-o", "alike", "alike.c")
+        self.assertEqual(cases.as_races([(1, 3, 9), (1, 4, 10)]), self.races_in("alike.c", "./alike"))
+
     def test_stores(self):
         source = os.path.join(TESTS, "stores.c")
         self.succeeds(CC, "-w", "-o", "plain", source)
@@ -147,13 +166,13 @@ class CompileTest(TracerTest):
         source = os.path.join(TESTS, "refused.c")
         with self.subTest("each tagged line, and nothing else"):
             said = self.run_command(SPBAGS_CC, "-c", "-o", "refused.o", source).errors
-            found = re.findall(r"refused\.c:([0-9]+): error: ", said)
+            found = re.findall(r"refused\.c:([0-9]+):(?:[0-9]+:)? error: ", said)
             self.assertEqual(lines_of(source, "/* [refused] */"), sorted(set(map(int, found))))
         with self.subTest("nothing is compiled"):
             self.assertFalse(os.path.exists("refused.o"))
         with self.subTest("no cilk.h"):
             self.write("no_header.c", "int main(void) {\ncilk_sync;\n}\n")
-            self.ends_with(1, "(?m)^no_header.c:2: error: .*write .#include <cilk/cilk.h>'", SPBAGS_CC, "no_header.c")
+            self.ends_with(1, "(?m)^no_header.c:2:1: error: .*write .#include <cilk/cilk.h>'", SPBAGS_CC, "no_header.c")
         with self.subTest("a malloc of its own"):
             self.write("own_malloc.c", "void *malloc(unsigned long size) { return 0; }\nint main(void) {}\n")
             self.ends_with(1, "leave out the program.s, or give it another name, as with -Dmalloc=", SPBAGS_CC,

@@ -10,7 +10,7 @@ import time
 sys.dont_write_bytecode = True
 import cases
 from cases import (INSIDE, LEVEL, SPBAGS_CPLUSPLUS, SPBAGS_RUN, TESTS, TRACER, TracerTest, by_call, line_of, lines_of,
-                   tagged_races)
+                   once_of_levels, tagged_races)
 
 CLASSES, SHARED, LOOPS, SPAWNS, COPIES, CONTAINERS, REFUSED = (os.path.join(TESTS, name + ".cpp") for name in (
     "openmp", "cplusplus", "loops", "spawns", "copies", "containers", "refused"))
@@ -82,7 +82,10 @@ struct Counter {
 };
 static thread_local Counter counter;
 static int seen[2];
-static void see(int at) { seen[at] = counter.value; }
+static void see(int at) {
+    static thread_local Counter local;
+    seen[at] = counter.value + local.value;
+}
 int main() {
     cilk_spawn see(0);
     see(1);
@@ -115,8 +118,8 @@ UNIT = {"SPBAGS_UNIT": "1"}
 
 
 class CPlusPlusTest(TracerTest):
-    def build(self, name, source, *flags):
-        super().build(name, source, LEVEL, *flags)
+    def build(self, name, source, *flags, compiler=""):
+        super().build(name, source, *([] if compiler else [LEVEL]), *flags, compiler=compiler)
 
     def has_tagged_races(self, source, program, **settings):
         self.assertEqual(tagged_races(source), self.races_in(source, program, "racy", **UNIT, **settings))
@@ -153,9 +156,11 @@ class OpenMPTest(CPlusPlusTest):
         self.build("early", "early.cpp", "-fopenmp")
         self.assertEqual(["1 5 6"], self.races_in("early.cpp", "./early"))
 
+    @once_of_levels
     def test_strings(self):
         self.prints_its_texts(SPBAGS_CPLUSPLUS, os.environ.get("SPBAGS_CXX", "g++"), "-fopenmp", "-DOPENMP")
 
+    @once_of_levels
     def test_refused(self):
         with self.subTest("a delete of its own"):
             self.write("own_delete.cpp", "void operator delete(void *block) noexcept { }\n"
@@ -166,6 +171,7 @@ class OpenMPTest(CPlusPlusTest):
             self.succeeds(SPBAGS_CPLUSPLUS, "-o", "thread", "thread.cpp")
             self.ends_with(2, "the program starts a thread", "./thread", SPBAGS_TRACE="run.trace")
 
+    @once_of_levels
     def test_future(self):
         """It waits without end, and a line says so."""
         self.write("future.cpp", FUTURE)
@@ -184,7 +190,7 @@ class ClassesTest(CPlusPlusTest):
 
     def test_classes(self):
         options = ["-fopenmp", "-std=c++17"]
-        self.succeeds("g++", "-w", *options, "-o", "plain", CLASSES)
+        self.build("plain", CLASSES, "-w", *options, compiler="g++")
         options += ["-fopenmp-version=51"] if IS_CLANG else []
         self.build("classes", CLASSES, "-Wall", "-Wextra", "-Werror", *options)
         with self.subTest("clean"):
@@ -223,14 +229,16 @@ class CilkTest(CPlusPlusTest):
     def test_own_object(self):
         self.write("own.cpp", OWN_OBJECT)
         self.build("own", "own.cpp")
-        self.assertNotIn("__tls_guard", self.reports(1, "each thread has its own", "--", "./own"))
+        self.assertNotRegex(self.reports(1, "each thread has its own", "--", "./own"), "__tls_guard|guard variable")
         self.reports(0, "", "--data-races", "--", "./own")
 
+    @once_of_levels
     def test_macros(self):
         text = "#include <cilk/cilk.h>\nstatic int f() { return 0; }\n" \
                "int main() { try { int x = cilk_spawn f(); cilk_sync; return x; } catch (int) {} }\n"
         self.compiles_with_macros(SPBAGS_CPLUSPLUS, "macros.cpp", text, MACROS)
 
+    @once_of_levels
     def test_strings(self):
         self.prints_its_texts(SPBAGS_CPLUSPLUS, "g++")
 
@@ -252,7 +260,7 @@ class CilkTest(CPlusPlusTest):
     def test_spawns(self):
         """They do what the serial program does."""
         self.build("spawns", SPAWNS, "-Wall", "-Wextra", "-Werror")
-        self.succeeds("g++", "-w", *SERIAL, "-o", "plain", SPAWNS)
+        self.build("plain", SPAWNS, "-w", *SERIAL, compiler="g++")
         printed = self.run_command("./plain", "clean").out
         for version in "12":
             with self.subTest("clean", version=version):
@@ -271,7 +279,31 @@ class CilkTest(CPlusPlusTest):
                 self.has_same_report("./spawns", "racy", **UNIT)
 
 
+# The first constructor writes what a cast reads.
+CAST = """#include <new>
+struct Base { Base() {} virtual ~Base() = default; };
+struct Derived : Base {};
+alignas(Derived) static char room[sizeof(Derived)];
+static volatile bool is_derived;
+int main() {
+    Base *at = new (room) Derived;
+#pragma omp parallel
+#pragma omp single
+    {
+#pragma omp task
+        is_derived = dynamic_cast<Derived *>(at);
+        new (room) Derived;
+    }
+}
+"""
+
+
 class CopiesTest(CPlusPlusTest):
+    def test_cast(self):
+        self.write("cast.cpp", CAST)
+        self.build("cast", "cast.cpp", "-fopenmp")
+        self.assertEqual(["2 2 12"], self.races_in("cast.cpp", "./cast"))
+
     def test_copies(self):
         """Structs that calls take or give, by the line of each."""
         for options in ([], ["-march=native"], ["-masm=intel"], ["-fPIC"]):
@@ -313,7 +345,7 @@ class ClangTest(CPlusPlusTest):
         """What clang++ doesn't compile."""
         for name, text, pattern in (
                 ("cilk.cpp", "#include <cilk/cilk.h>\nvoid f();\nvoid g() {\ncilk_spawn f();\n}\n",
-                 r"cilk.cpp:4: error: Cilk in C\+\+ can be traced only with g\+\+"),
+                 r"cilk.cpp:4:1: error: Cilk in C\+\+ can be traced only with g\+\+"),
                 ("tbb.cpp", "#include <tbb/parallel_for.h>\n", r"can be traced only with g\+\+")):
             with self.subTest(name):
                 self.write(name, text)

@@ -41,16 +41,16 @@ race 130 write 4 write 8
 """
 # Units whose sites take turns, some more than others, with some left out.
 TURNS = """#include <cilk/cilk.h>
-static int cells[1000];
-static long long wide[500];
+static int cells[6001];
+static long long wide[3000];
 static void set(unsigned random, int step) {
-    for (int i = 0; i < 1000; i += step) {
+    for (int i = 0; i < 6000; i += step) {
         random = 1664525 * random + 1013904223;
         if (random >> 30 < step)
             cells[i] = 1;
         else if (random >> 28 < 15)
             cells[i] = 2;
-        else if (random >> 26 < 62 || i < 500)
+        else if (random >> 26 < 62 || i < 3000)
             cells[i + 1] = 3;
         else
             cells[i] = 4;

@@ -15,8 +15,8 @@ from cases import INSIDE, LEVEL, SPBAGS_CC, TESTS, TRACER, TracerTest, by_call, 
 
 LIBRARY, VECTORS = (os.path.join(TESTS, name + ".c") for name in ("library", "vectors"))
 VECTOR_OPTIONS = ("avx512f", "avx512vl", "avx512bw", "avx512dq", "xsave")
-# Newer libraries have those of C23 and these two. test_streams.py tries those of C++.
-WITHOUT_A_CASE = re.compile("strlcpy|strlcat|_Z.*|.*isoc23.*")
+# Newer libraries have those of C23 and these two. test_streams.py and test_cplusplus.py try those of C++.
+WITHOUT_A_CASE = re.compile("strlcpy|strlcat|_Z.*|__dynamic_cast|.*isoc23.*")
 
 
 class CallsTest(TracerTest):
@@ -78,7 +78,53 @@ int main(void) {
 """
 
 
+# What one child sets the other one asks for.
+ENVIRONMENT = """
+#include <cilk/cilk.h>
+#include <locale.h>
+#include <stdio.h>
+#include <stdlib.h>
+#include <string.h>
+#include <time.h>
+static void set(const char *word) {
+    if (strcmp(word, "printf") == 0)
+        setlocale(LC_ALL, "C");
+    else
+        setenv("TZ", "UTC", 1);
+}
+static void ask(const char *word) {
+    time_t now = 0;
+    struct tm day = {.tm_mday = 1};
+    char text[40];
+    if (strcmp(word, "localtime") == 0)
+        localtime(&now);
+    else if (strcmp(word, "mktime") == 0)
+        mktime(&day);
+    else if (strcmp(word, "strftime") == 0)
+        strftime(text, sizeof text, "%Z", &day);
+    else if (strcmp(word, "system") == 0)
+        system(":");
+    else
+        snprintf(text, sizeof text, "%f", 1.5);
+}
+int main(int count, char **words) {
+    cilk_spawn set(words[1]);
+    ask(words[1]);
+    cilk_sync;
+}
+"""
+
+
 class ListsTest(TracerTest):
+    def test_environment(self):
+        self.write("environment.c", ENVIRONMENT)
+        self.succeeds(SPBAGS_CC, LEVEL, "-w", "-o", "environment", "environment.c")
+        for word in ("localtime", "mktime", "strftime", "system"):
+            with self.subTest(word):
+                self.reports(1, "", "--", "./environment", word)
+        with self.subTest("the locale"):
+            self.reports(3, "setlocale is called where something else may run", "--", "./environment", "printf")
+
     def test_shared(self):
         self.write("lists.c", LISTS)
         self.succeeds(SPBAGS_CC, LEVEL, "-o", "lists", "lists.c")

@@ -143,8 +143,24 @@ ANSWERS = [
     ("sets_four", 3, f"{at('sets four')}: this parallel region wants 4 threads", "", "", {}),
     ("sums_section", int(IS_CLANG), "", *(2 * ["sums section"] if IS_CLANG else ["", ""]), {}),
     ("asks_how_many", 3, f"{at('asks how many')}: this parallel region has 2 threads, and asks", "", "", {}),
-    ("reaches_local_often", 1, f"{at('reaches local')}: this accesses another", "reaches local", "reaches local", {}),
-    ("reaches_local_once", 3, f"{at('reaches local')}: this accesses another", "", "", {}),
+    ("reaches_local_often", 1, "", "reaches local", "reaches local", {}),
+    ("reaches_local_once", 1, "", "reaches local", "reaches local", {}),
+    ("single_first", 1, "", "in single", "beside construct", {}),
+    ("single_others", 1, "", "in single", "beside construct", {}),
+    ("single_before", 0, "", "", "", {}),
+    ("single_own", 0, "", "", "", {}),
+    ("two_singles", 1, "", "in other single", "in single", {}),
+    ("section_first", 1, "", "in section", "beside construct", {}),
+    ("section_others", 1, "", "in section", "beside construct", {}),
+    ("iteration_first", 1, "", "in iteration", "beside construct", {}),
+    ("iteration_others", 1, "", "in iteration", "beside construct", {}),
+    ("iteration_own", 0, "", "", "", {}),
+    ("master_first", 0, "", "", "", {}),
+    ("master_others", 1, "", "in master", "beside construct", {}),
+    ("task_first", 1, f"{at('beside construct')}: this accesses a variable", "in task", "beside construct", {}),
+    ("task_others", 1, "", "in task", "beside construct", {}),
+    ("across_loop", 1, "", "before loop", "behind loop", {}),
+    ("task_of_single", 3, f"{at('beside task of single')}: this accesses a variable", "", "", {}),
     ("reaches_own", 3, f"{at('reaches own')}: this accesses what another", "", "", {}),
     ("reaches_own_in_loop", 1, f"{at('reaches own in loop')}: this accesses what another", "reaches own in loop",
      "reaches own in loop", {}),
@@ -204,6 +220,10 @@ class AnswersTest(OpenMPTest):
                     self.assertIn(line, json.dumps(report))
                 else:
                     self.assertEqual([], report["incomplete"])
+
+    def test_one_run(self):
+        """There is no other run, so its lines stay."""
+        self.reports(3, "Where another thread does that, by a pointer", "--one-run", "--", "./ways", "single_own")
 
     def test_guards(self):
         with self.subTest("what is held"):
@@ -299,7 +319,7 @@ class RefusedTest(OpenMPTest):
                 self.assertEqual(lines, re.findall("ignored.c:([0-9]+): warning: without -fopenmp", done.errors))
 
     def test_cilk(self):
-        self.ends_with(1, "fib.c:8: error: Cilk can.t be traced together with OpenMP", SPBAGS_CC, "-fopenmp", "-c",
+        self.ends_with(1, "fib.c:8:13: error: Cilk can.t be traced together with OpenMP", SPBAGS_CC, "-fopenmp", "-c",
                        "fib.c")
 
 

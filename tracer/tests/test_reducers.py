@@ -6,7 +6,7 @@ import sys
 
 sys.dont_write_bytecode = True
 import cases
-from cases import INSIDE, LEVEL, SPBAGS_CC, TESTS, TracerTest, line_of, lines_of
+from cases import INSIDE, LEVEL, SPBAGS_CC, TESTS, TracerTest, line_of, lines_of, once_of_levels
 
 C, CPLUSPLUS = (os.path.join(TESTS, name) for name in ("reducers.c", "reducers.cpp"))
 PRINTED = """out 7 12 3 4 26 10
@@ -78,6 +78,7 @@ class CTest(ReducersTest):
         with self.subTest("an argument that is evaluated before"):
             self.assertEqual([twice(line_of(C, "[number]"))], self.lines(C, "./reducers", "arguments"))
 
+    @once_of_levels
     def test_refused(self):
         start = "#include <cilk/cilk.h>\nvoid zero(void *);\nvoid add(void *, void *);\n"
         no_place = "this reducer cannot be traced: declare a variable, a member or a pointer"

@@ -556,6 +556,16 @@ class SecondRunTest(RunTest):
                          sides_of(pair))
         self.assertEqual((1, 2), (pair["races"], pair["variable"]["offset"]))
 
+    def test_byte_alone(self):
+        """Where no neighbours are accessed the second run says so, and no other is made."""
+        status, report = self.found_at_first("byte alone")
+        self.assertEqual((1, 1, True, 2), (status, report["races"], report["stacks"], os.path.getsize("ran")))
+        [pair] = report["pairs"]
+        self.assertEqual([[("write", "[letter]"), ("spawn", "[spawn byte]"), MAIN],
+                          [("write", "[letter]"), ("call", "[calls byte]"), MAIN]], sides_of(pair))
+        self.assertEqual(("letters", 5, False),
+                         (pair["variable"]["name"], pair["variable"]["offset"], pair["neighbours"]))
+
     def test_units_beside_neighbours(self):
         """Each half of a double is one location, beside neighbours too."""
         for words in (("doubles",), ("doubles", "neighbours")):
@@ -686,7 +696,9 @@ static int cells[1 << 20], racy;
 static void child(void) { racy = 1; }
 int main(int count, char **words) {
     cilk_spawn child();
+#ifndef CLEAN
     racy = 2;
+#endif
     cilk_sync;
     for (int i = 0; i < 1 << 20; i++)
         cells[i] = i;
@@ -700,6 +712,7 @@ int main(int count, char **words) {
         super().setUp()
         self.write("slow.c", self.TEXT)
         self.succeeds(SPBAGS_CC, "-w", "-o", "slow", "slow.c")
+        self.succeeds(SPBAGS_CC, "-w", "-DCLEAN", "-o", "clean", "slow.c")
 
     def shown(self, *words, **settings):
         """What standard error gets, if it is a terminal."""
@@ -717,13 +730,19 @@ int main(int count, char **words) {
 
     def test_terminal(self):
         """A line says how far each run is, and is gone at the end."""
-        said = self.shown(SPBAGS_RUN, "--", "./slow", "4")
+        with ThreadPoolExecutor() as pool:
+            once = pool.submit(self.shown, SPBAGS_RUN, "--one-run", "--", "./slow", "4")
+            none = pool.submit(self.shown, SPBAGS_RUN, "--", "./clean", "4")
+            said = self.shown(SPBAGS_RUN, "--", "./slow", "4")
         accesses = ", 1\\.0 million accesses" if INSIDE else ""
-        self.assertRegex(said, rf"run 1: [23] s{accesses}\033")
+        again, races = (" of at least 2", ", 1 race") if INSIDE else ("", "")
+        self.assertRegex(said, rf"run 1{again}: [23] s{accesses}{races}\033")
         self.assertRegex(said, r"run 2: [0-9]+ s, 1 race\033")
         self.assertRegex(said, r"\033\[J\Z")
-        self.assertEqual("", re.sub(r"\033(?:[DM78]|\[J|\[[02]m)|\r*\n|(?:run [12]|looking up source lines): [0-9]+ s[\w,. ]*",
+        self.assertEqual("", re.sub(r"\033(?:[DM78]|\[J|\[[02]m)|\r*\n|(?:run [12][a-z2 ]*|looking up source lines): [0-9]+ s[\w,. ]*",
                                     "", said))
+        self.assertRegex(once.result(), rf"run 1: [23] s{accesses}{races}\033")
+        self.assertRegex(none.result(), rf"run 1: [23] s{accesses}{races.replace('1 race', '0 races')}\033")
 
     def test_elsewhere(self):
         """A short run shows nothing, nor does a pipe, a file, or a terminal that can't erase."""

@@ -23,6 +23,7 @@ mod nesting;
 mod search;
 mod stretch;
 mod stretches;
+mod suspended;
 
 /// The bags of the active procedures of a serial run, which begins in its root.
 ///
@@ -69,7 +70,7 @@ impl Bags {
         ensures { IfOk result (λ bags. bags ≡ at_start) }
     {
         Ok(Bags {
-            nesting: Nesting::new(alloc, Nested::new(0, 0, false))?,
+            nesting: Nesting::new(alloc, Nested::new(0, 0, false)),
             stretches: Stretches::new(alloc, Stretch::new(0, false))?,
             count: 1,
         })

@@ -1,8 +1,9 @@
 //! The races of all shards, by location.
-ghost use Rattle.std.specs.Prelude.{◌≡◌, List, [], ◌∷◌, ◌++◌, map, true, IsTrue, OnOk, OnErr, IfOk, IsErr};
+ghost use Rattle.std.specs.Prelude.{◌≡◌, List, [], ◌∷◌, ◌++◌, length, map, true, IsTrue, OnOk, OnErr, IfOk, IsErr};
 ghost use Rattle.dag.specs.declared.back.Back.{Back};
 ghost use Rattle.collect.specs.Collected.{AreFirstLeast, KeepsBest, IsCollected, IsFirstOnLocation, IsTakenInPart};
 ghost use Rattle.collect.specs.Collected.{fails, has_better};
+ghost use Rattle.collect.specs.Reports.{IsReportList};
 
 use crate::reports::Report;
 use std::alloc::Global;
@@ -71,6 +72,14 @@ impl Collector {
         ensures { result ≡ self.now.refused }
     {
         self.refused
+    }
+
+    /// How many locations have a race among those taken.
+    pub fn count(&self) -> usize
+        ensures count { result ≡ length self.now.races }
+        ensures report { IsReportList self.now.races }
+    {
+        self.kept.len()
     }
 
     /// Takes the races of a report, one after another. If the allocator refuses a growth, the collector has the races

@@ -1,4 +1,5 @@
-//! Tests of `detect`. They are in a crate of their own, since a crate with tests is proved once more with them.
+//! Tests of `detect` and `online`. They are in one crate, since a crate with tests is proved once more with them, and
+//! each crate of tests reads all that it stands on.
 #![tactic(auto)]
 
 #[cfg(test)]

@@ -5,6 +5,7 @@ mod cuttings;
 mod faulty_rows;
 mod known;
 mod part_rows;
+mod record_by_record;
 mod reported_rows;
 mod rows;
 mod samples;

@@ -18,6 +18,7 @@ use Rattle.serial.specs.Racy.{HasLocation}
 use Rattle.serial.specs.Reported.{IsReportOf}
 use Rattle.online.specs.Accesses.{block_records}
 use Rattle.online.specs.Lives.{in_life, first_lives, lives_after, AreOfFirstLives, IsReportOfLives, HasRacyLife}
+use Rattle.online.specs.Lives.{IsRaceCount}
 use Rattle.online.specs.Online.{IsAfter, MayWant}
 use Rattle.inside.specs.declared.session.Session.{Session}
 use Rattle.inside.specs.declared.session.Session.TheVariants.{Taking, Giving, Stopped}
@@ -158,6 +159,13 @@ pub record HasForgotten (before : Session) (location units : ℕ) (after : Sessi
   pub stopped : before ≡ Stopped → status ≡ no_memory
   pub giving : (text : List ℕ) (count : ℕ) → HasGiven text count before → status ≡ given
   pub taking : (u : List Record) (lives : ℕ → ℕ) → HasTaken u lives before → status ≡ taken
+
+-- What the call answers that counts the locations that have raced.
+pub record HasCounted (session : Session) (answer : ℕ) : Type 0 where
+  pub counted : (u : List Record) (lives : ℕ → ℕ) → HasTaken u lives session → IsRaceCount u answer
+  -- a session that takes no records any more counts none
+  pub giving : (text : List ℕ) (count : ℕ) → HasGiven text count session → answer ≡ 0
+  pub stopped : session ≡ Stopped → answer ≡ 0
 
 -- What the call does that makes the text of the report.
 pub record HasReported (before after : Session) (status : ℕ) : Type 0 where

@@ -10,7 +10,7 @@ ghost use Rattle.std.specs.Ptr.{lies_at, room_at};
 ghost use Rattle.inside.specs.declared.session.Session.{Session};
 ghost use Rattle.inside.specs.contracts.session.Session.{the_row};
 ghost use Rattle.inside.specs.Sessions.{held, unpacked, HasTaken, HasStepped, HaveStepped, HasTakenBlock};
-ghost use Rattle.inside.specs.Sessions.{HasForgotten, HasReported, HasNext};
+ghost use Rattle.inside.specs.Sessions.{HasForgotten, HasCounted, HasReported, HasNext};
 ghost use Rattle.online.specs.Lives.{first_lives};
 
 use crate::session::Session;
@@ -80,6 +80,17 @@ pub unsafe extern "C" fn spbags_forget(handle: *mut u8, location: u64, units: u6
     ensures* { sem 𝓛 (held the_row handle (λ after. HasForgotten before location units after result)) }
 {
     Session::forget(&mut *(handle as *mut Session), location, units)
+}
+
+/// How many locations have raced in any of their lives, which are those of the report if it were made now. A session
+/// that takes no records any more answers 0.
+#[unsafe(no_mangle)]
+pub unsafe extern "C" fn spbags_race_count(handle: *const u8) -> usize
+    ghost before: { Session }
+    requires* { sem 𝓛 (lies_at the_row full_share handle before) }
+    ensures* { sem 𝓛 (lies_at the_row full_share handle before) ∗ ⌜ HasCounted before result ⌝ }
+{
+    Session::race_count(&*(handle as *const Session))
 }
 
 /// Makes the text of the report.

@@ -7,7 +7,8 @@ ghost use Rattle.inside.specs.Naming.{named_with};
 ghost use Rattle.inside.specs.Statuses.{answered_status};
 ghost use Rattle.online.specs.Lives.{first_lives};
 ghost use Rattle.inside.specs.Sessions.{unpacked, no_memory, IsNamed, HasTaken, report_text, IsTextOfLives};
-ghost use Rattle.inside.specs.Sessions.{HasStepped, HaveStepped, HasTakenBlock, HasForgotten, HasReported, HasNext};
+ghost use Rattle.inside.specs.Sessions.{HasStepped, HaveStepped, HasTakenBlock, HasForgotten, HasCounted};
+ghost use Rattle.inside.specs.Sessions.{HasReported, HasNext};
 
 use crate::text::Text;
 use collect::write_report;
@@ -135,6 +136,16 @@ impl Session {
             }
             Session::Giving(..) => GIVEN,
             Session::Stopped => NO_MEMORY,
+        }
+    }
+
+    /// How many locations have raced in any of their lives.
+    pub(crate) fn race_count(&self) -> usize
+        ensures { HasCounted self.now result }
+    {
+        match self {
+            Session::Taking(detector, _) => detector.race_count(),
+            _ => 0,
         }
     }
 

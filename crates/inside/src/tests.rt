@@ -47,7 +47,9 @@ fn step_by_step(rt: HostRuntime) -> Result<(), Fail> {
     assert_eq!(rt; session.step(WRITE, 7), TAKEN);
     assert_eq!(rt; session.step(6, 7), UNKNOWN_KIND);
     assert_eq!(rt; session.step(RETURN, 0), TAKEN);
+    assert_eq!(rt; session.race_count(), 0);
     assert_eq!(rt; session.step(WRITE, 7), TAKEN);
+    assert_eq!(rt; session.race_count(), 1);
     assert_eq!(rt; session.step(RETURN, 0), TAKEN);
     assert_eq!(rt; session.step(SYNC, 0), AFTER_END);
     gives(&rt, &mut session, b"races 1\nrace 7 write 2 write 4\n");

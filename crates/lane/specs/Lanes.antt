@@ -1,5 +1,5 @@
 -- Promised: what contracts see of the ends of a lane: which lane they are of, what was put, and what was taken.
-use Rattle.std.specs.Prelude.{◌≡◌, ◌≤◌, ℕ, ◌+◌, ◌%◌, ◌^◌, Bool, false, if◌then◌else◌, List, ◌++◌, length}
+use Rattle.std.specs.Prelude.{◌≡◌, ℕ, ◌+◌, ◌-◌, ◌%◌, ◌^◌, Bool, false, if◌then◌else◌, List, ◌++◌, length}
 use Rattle.std.specs.declared.alloc.Global.{Global}
 use Rattle.rtrb.specs.Shared.{Names}
 use Rattle.rtrb.specs.declared.end.End.{End}
@@ -52,9 +52,17 @@ module _ {T : Type 0} where
   abbrev pub IsUnmarked : SenderState T → Type 0
   IsUnmarked s = has_mark (put_of s) ≡ false
 
-  -- nothing was put, and no fewer items were before than the lane holds at most
+  -- how many of the items put the sender knows to be taken
+  abbrev pub known_taken : SenderState T → ℕ
+  known_taken s = length (put_of s) + s.room - s.capacity
+
+  -- the lane is full, as far as the sender knows: as many items are put and not taken as it holds at most
+  abbrev pub IsFull : SenderState T → Type 0
+  IsFull s = length (put_of s) ≡ s.capacity + known_taken s
+
+  -- nothing was put, and the lane was full and is, as far as the sender knows
   abbrev pub WasFull : SenderState T → SenderState T → Type 0
-  WasFull old new = (put_of new ≡ put_of old) × (old.capacity ≤ length (put_of old))
+  WasFull old new = (put_of new ≡ put_of old) × (IsFull old × IsFull new)
 
   -- one refusal more is counted, unless the call succeeded
   abbrev pub CountsRefusal : Bool → SenderState T → SenderState T → Type 0

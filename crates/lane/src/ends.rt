@@ -32,6 +32,7 @@ pub fn lane<T: Copy + Send>(
     ensures lane { IfOk result (λ r. r.0.lane ≡ r.1.lane) }
     ensures empty { IfOk result (λ r. (put_of r.0 ≡ []) × (r.1.taken ≡ [])) }
     ensures capacity { IfOk result (λ r. (r.0.capacity ≡ capacity) × (r.1.capacity ≡ capacity)) }
+    ensures room { IfOk result (λ r. r.0.room ≡ capacity) }
 {
     let staged = Vec::with_capacity(alloc, BLOCK)?;
     let Ok((sending, taking)) = RingBuffer::with_protocol::<Global, MarkLast>(alloc, capacity)

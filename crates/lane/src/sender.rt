@@ -131,6 +131,8 @@ impl<T: Copy + Send> Sender<T> {
         ensures succeeds { length values.now ≤ self.old.room → IsTrue result }
         ensures unmarked { IsUnmarked self.new }
         ensures shown { self.new.staged ≡ [] }
+        ensures room { self.old.room ≤ self.new.room + length values.now }
+        ensures kept { IsFalse result → self.old.room ≤ self.new.room }
         ensures refusals { CountsRefusal result self.old self.new }
     {
         self.flush();
@@ -152,6 +154,7 @@ impl<T: Copy + Send> Sender<T> {
         ensures put { IsTrue result → put_of self.new ≡ put_of self.old ++ Finish ∷ [] }
         ensures full { IsFalse result → WasFull self.old self.new }
         ensures no_room { IsFalse result → (self.old.room ≡ 0) × (self.new.room ≡ 0) }
+        ensures room { self.old.room ≤ self.new.room + 1 }
         ensures marked { has_mark (put_of self.new) ≡ result }
         ensures shown { self.new.staged ≡ [] }
         ensures refusals { CountsRefusal result self.old self.new }
@@ -193,6 +196,7 @@ impl<T: Copy + Send> Sender<T> {
     pub fn end(mut self) -> End<T>
         ensures lane { SameSender self result }
         ensures put { put_of result ≡ put_of self }
+        ensures room { self.room ≤ result.room }
         ensures shown { result.shown ≡ put_of result }
     {
         self.flush();

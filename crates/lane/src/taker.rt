@@ -34,7 +34,7 @@ impl<T> Model for Taker<T> {
 }
 
 impl<T: Copy + Send> Taker<T> {
-    ghost use Rattle.lane.specs.Lanes.{put_of, SameSender, SameTaker};
+    ghost use Rattle.lane.specs.Lanes.{put_of, known_taken, SameSender, SameTaker};
 
     /// The next item, or `None` if the lane is empty; after the mark always `None`.
     #[tactic(auto, using(crate::proofs::Marks::of_an_item))]
@@ -98,16 +98,20 @@ impl<T: Copy + Send> Taker<T> {
         self.ended
     }
 
-    /// Looks at the other end: the items taken, and then those that wait, are the items put.
+    /// Both ends look at each other: the items taken, and then those that wait, are the items put. What the sender knew
+    /// to be taken was taken, and it knows of all that is.
     pub fn beside(&mut self, sender: &mut Sender<T>)
         requires { sender.old.lane ≡ self.old.lane }
         ensures lane { SameTaker self.old self.new × SameSender sender.old sender.new }
         ensures taken { self.new.taken ≡ self.old.taken }
         ensures put { put_of sender.new ≡ put_of sender.old }
         ensures waiting { self.new.taken ++ self.new.waiting ≡ put_of sender.new }
+        ensures knew { known_taken sender.old ≤ length self.new.taken }
+        ensures knows { length self.new.taken ≤ known_taken sender.new }
         ensures last { mark_last (put_of sender.new) ≡ true }
     {
         sender.flush();
+        sender.ring.slots_beside(&mut self.ring);
         self.ring.slots_beside(&mut sender.ring);
     }
 
@@ -119,6 +123,7 @@ impl<T: Copy + Send> Taker<T> {
         ensures taken { self.new.taken ≡ self.old.taken }
         ensures put { put_of end.new ≡ put_of end.old }
         ensures waiting { self.new.taken ++ self.new.waiting ≡ put_of end.new }
+        ensures knew { known_taken end.old ≤ length self.new.taken }
         ensures prefix { IsBeginning self.new.taken (put_of end.new) }
         ensures last { mark_last (put_of end.new) ≡ true }
         ensures whole { has_mark self.new.taken ≡ true → self.new.taken ≡ put_of end.new }

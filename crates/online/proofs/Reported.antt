@@ -1,5 +1,5 @@
 -- The report of all lives, and that of a run in which each location has but one.
-use Rattle.std.proofs.Common.{◌≡◌, ◌≢◌, ◌↔◌, ℕ, suc, ◌/◌, ◌%◌, ◌^◌, ◌<◌, ◌≤◌, Bool, true, false, List, [], ◌∷◌, ◌++◌, map, Option, Some, None, refl, sym, ap, subst, ◌∙◌, ⊎_elim, arith}
+use Rattle.std.proofs.Common.{◌≡◌, ◌≢◌, ◌↔◌, ℕ, zero, suc, ◌/◌, ◌%◌, ◌^◌, ◌<◌, ◌≤◌, Bool, true, false, List, [], ◌∷◌, ◌++◌, length, replicate, map, Option, Some, None, refl, sym, ap, subst, ◌∙◌, ⊎_elim, arith}
 use Rattle.std.specs.List.{AllByRecursion}
 use Rattle.std.specs.Option.{option_to_list}
 use Rattle.std.proofs.lemmas.List.{map-append}
@@ -16,6 +16,7 @@ use Rattle.shadow.specs.Cells.{Cell, untouched, race_with, rival}
 use Rattle.shadow.specs.Found.{State, state_at_start, state_after, after_record, race_of, found, found_from, put_in, by_location, verdict}
 use Rattle.shadow.proofs.FoundLaws.{found_from-apart, found-reported}
 use Rattle.collect.specs.Collected.{KeepsBest, IsCollected, best}
+use Rattle.collect.specs.Reports.{IsReportList}
 use Rattle.collect.proofs.Sorted.{collected_is_sorted}
 use Rattle.collect.proofs.Ascending.{Ascends-from_increasing}
 use Rattle.collect.proofs.FirstLeast.{KeptOf, all_in, in_race_on, in_round, kept_best, race_on_in}
@@ -26,7 +27,7 @@ use Rattle.shadow.proofs.Headlines.{racy}
 use Rattle.serial.specs.Racy.{HasLocation}
 use Rattle.dag.specs.Traces.{placed, placed_from, IsWellNested}
 use Rattle.serial.proofs.Detected.{apart}
-use Rattle.online.specs.Lives.{named, first_lives, home, at_home, IsOfFirstLife, AreOfFirstLives, IsReportOfLives, HasRacyLife}
+use Rattle.online.specs.Lives.{named, first_lives, home, at_home, IsOfFirstLife, AreOfFirstLives, IsReportOfLives, HasRacyLife, IsRaceCount}
 use Rattle.online.specs.Online.{Online, HasTakenPlaced}
 
 pub reported_lives : (u : List Placed) (lives : ℕ → ℕ) (d : Online) (rs : List RaceAt) → HasTakenPlaced u lives d → ((g : List Back) → KeepsBest g d.kept → IsCollected g rs) → IsReportOfLives u rs
@@ -111,3 +112,22 @@ module _ (u : List Record) (n d : ℕ) (rs : List RaceAt) (nested : IsWellNested
 
   pub lives_racy : HasLocation rs l ↔ HasRacyLife u l
   lives_racy = (to_life, from_life)
+
+-- ---- how many locations have raced
+
+-- returns find no race
+found_before_returns : (s : State) (i : ℕ) (u : List Record) (n : ℕ) → found_from s (placed_from i (u ++ replicate n Return)) ≡ found_from s (placed_from i u)
+found_before_returns s i [] zero = refl
+found_before_returns s i [] (suc n) = found_before_returns (after_record s i Return) (suc i) [] n
+found_before_returns s i (r ∷ u) n = ap (λ l. option_to_list (race_of s i r) ++ l) (found_before_returns (after_record s i r) (suc i) u n)
+
+pub race_count : (u : List Record) (lives : ℕ → ℕ) (d : Online) (count : ℕ) → HasTakenPlaced (placed u) lives d → count ≡ length d.kept.races → IsReportList d.kept.races → IsRaceCount u count
+race_count u lives d count h counted report =
+    let of : (w : List Placed) → found w ≡ found (placed u) → IsReportOfLives w d.kept.races
+    = λ w same. record { ascending = report; best_on = λ l. h.holds.best_on l ∙ ap (best l) (h.races ∙ ap (map at_home) (sym same)) } in
+    record {
+      races = d.kept.races;
+      counted = counted;
+      of_lives = of (placed u) refl;
+      racy = λ returns records depths nested. lives_racy (u ++ replicate returns Return) records depths d.kept.races nested (of (placed (u ++ replicate returns Return)) (found_before_returns state_at_start 1 u returns));
+    }

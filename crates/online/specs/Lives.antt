@@ -1,14 +1,17 @@
 -- Promised: the lives of locations, and what is reported of them.
-use Rattle.std.specs.Prelude.{◌≡◌, ℕ, ◌+◌, ◌*◌, ◌%◌, ◌^◌, ◌<◌, ⊤, List, map, All, if◌then◌else◌}
+use Rattle.std.specs.Prelude.{◌≡◌, ℕ, ◌+◌, ◌*◌, ◌%◌, ◌^◌, ◌<◌, ◌↔◌, ⊤, List, ◌++◌, length, map, replicate, All}
+use Rattle.std.specs.Prelude.{if◌then◌else◌}
 use Rattle.dag.specs.declared.records.Record.{Record}
 use Rattle.dag.specs.declared.records.Record.TheVariants.{Spawn, Call, Return, Sync, Read, Write}
 use Rattle.dag.specs.declared.records.Placed.{Placed}
 use Rattle.dag.specs.Accesses.{RaceAt}
 use Rattle.dag.specs.Races.{HasRace}
+use Rattle.dag.specs.Traces.{placed, IsWellNested}
 use Rattle.shadow.specs.Found.{found}
 use Rattle.collect.specs.Collected.{race_on, best}
 use Rattle.collect.specs.Reports.{IsReportList}
 use Rattle.blocks.specs.Blocks.{is_unit}
+use Rattle.serial.specs.Racy.{HasLocation}
 
 -- A life of a location is a location of its own in the records: life k of location l has the name l + 2^64 * k.
 abbrev pub named : ℕ → ℕ → ℕ
@@ -63,3 +66,12 @@ HasRacyLife u l = (x : ℕ) × (home x ≡ l) × HasRace u x
 pub record IsReportOfLives (u : List Placed) (races : List RaceAt) : Type 0 where
   pub ascending : IsReportList races
   pub best_on : (l : ℕ) → race_on l races ≡ best l (map at_home (found u))
+
+-- So many locations are in the report of all lives of these records. If the procedures that are still open return now,
+-- and the records are well nested then, these are exactly the locations one of whose lives has a race.
+pub record IsRaceCount (u : List Record) (count : ℕ) : Type 0 where
+  pub races : List RaceAt
+  pub counted : count ≡ length races
+  pub of_lives : IsReportOfLives (placed u) races
+  pub racy : (returns records depths : ℕ) → IsWellNested (u ++ replicate returns Return) records depths
+      → (l : ℕ) → HasLocation races l ↔ HasRacyLife (u ++ replicate returns Return) l

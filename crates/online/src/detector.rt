@@ -20,7 +20,7 @@ ghost use Rattle.blocks.specs.Blocks.{is_unit, next_place_of};
 ghost use Rattle.online.specs.Accesses.{accesses, block_records};
 ghost use Rattle.serial.specs.Racy.{HasLocation};
 ghost use Rattle.online.specs.Lives.{in_life, placed_in_life, first_lives, lives_after, AreOfFirstLives};
-ghost use Rattle.online.specs.Lives.{IsReportOfLives, HasRacyLife};
+ghost use Rattle.online.specs.Lives.{IsReportOfLives, HasRacyLife, IsRaceCount};
 ghost use Rattle.online.specs.Online.{HasTakenPlaced, IsAfter, IsStopped, WantsMemory, MayWant};
 
 use bags::Bags;
@@ -168,6 +168,13 @@ impl<S: BuildHasher + Drop> Detector<S> {
         } else {
             self.blocks.forget(location, units);
         }
+    }
+
+    /// How many locations have raced in any of their lives.
+    pub fn race_count(&self) -> usize
+        ensures { (u : List Record) (lives : ℕ → ℕ) → IsAfter u lives self.now → IsRaceCount u result }
+    {
+        self.collector.count()
     }
 
     // Whether so many more records may come.

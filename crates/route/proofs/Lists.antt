@@ -95,7 +95,7 @@ has_refused ss k s t among at lane full none counts = record {
   counts = map-set (λ s. s.refusals) ss k t ∙ ap (λ (n : ℕ). set (refusals ss) k n) (counts ∙ ap one_more (ap (λ s. s.refusals) at ∙ sym (get_or-map (λ s. s.refusals) ss k s 0 (sender_at ss k among))));
   knew = get_or-map (λ s. s.room) ss k s 0 (sender_at ss k among) ∙ ap (λ s. s.room) (sym at) ∙ none.0;
   knows = room_set ss k t (sender_at ss k among) ∙ none.1;
-  full = omega (arith, full.1, capacity_at ss k s (sender_at ss k among) at, ap length (put_at ss k s among at));
+  full = omega (arith, full.1.0, capacity_at ss k s (sender_at ss k among) at, ap length (put_at ss k s among at));
 }
 
 -- the same of a sender's answer to a put

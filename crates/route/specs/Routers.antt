@@ -1,5 +1,5 @@
 -- Promised: what a router says: its lanes, what was put on them, the pending record, and the marks.
-use Rattle.std.specs.Prelude.{◌≡◌, ℕ, ◌<◌, ◌≤◌, true, false, List, [], length, slice_index_or, Option}
+use Rattle.std.specs.Prelude.{◌≡◌, ℕ, ◌+◌, ◌-◌, ◌<◌, ◌≤◌, true, false, List, [], length, slice_index_or, Option}
 use Rattle.std.specs.Option.{ForSome}
 use Rattle.lane.specs.declared.item.Item.{Item}
 use Rattle.lane.specs.Lanes.{LaneId}
@@ -73,13 +73,17 @@ ShowsAll r = (k : ℕ) → k < lane_count r → shown_on r k ≡ put_on r.puts k
 abbrev pub capacity_on : RouterState → ℕ → ℕ
 capacity_on r k = slice_index_or r.capacities k 0
 
--- on lane k no fewer items were put than it can hold
-abbrev pub IsFull : RouterState → ℕ → Type 0
-IsFull r k = capacity_on r k ≤ length (put_on r.puts k)
-
 -- for how many items more the sender of lane k knows to have room
 abbrev pub room_on : RouterState → ℕ → ℕ
 room_on r k = slice_index_or r.rooms k 0
+
+-- how many of the items put on lane k its sender knows to be taken
+abbrev pub known_taken_on : RouterState → ℕ → ℕ
+known_taken_on r k = length (put_on r.puts k) + room_on r k - capacity_on r k
+
+-- lane k is full, as far as its sender knows: as many items are put on it and not taken as it holds at most
+abbrev pub IsFullOn : RouterState → ℕ → Type 0
+IsFullOn r k = length (put_on r.puts k) ≡ capacity_on r k + known_taken_on r k
 
 -- the sender of lane k refused a put, and no other sender refused one
 abbrev pub WasRefused : RouterState → RouterState → ℕ → Type 0
@@ -91,11 +95,11 @@ pub record HasBlocked (old new : RouterState) (k : ℕ) : Type 0 where
   pub refused : WasRefused old new k
   pub knew_of_none : room_on old k ≡ 0
   pub knows_of_none : room_on new k ≡ 0
-  pub full : IsFull old k
+  pub full : IsFullOn old k
   pub unchanged : IsUnchanged old new
 
 -- lane k is full, and its sender knows of no room
 pub record IsStuck (r : RouterState) (k : ℕ) : Type 0 where
   pub within : k < lane_count r
   pub no_room : room_on r k ≡ 0
-  pub full : IsFull r k
+  pub full : IsFullOn r k

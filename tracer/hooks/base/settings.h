@@ -37,6 +37,7 @@
     SETTING(LOOK, "fd:N", "", "") \
     SETTING(DIVIDE, "fd:N", "", "") \
     SETTING(WAITED, "fd:N", "", "") \
+    SETTING(OTHERS, "1", "", "") \
     SETTING(PROGRESS, "fd:N", "", "") \
     SETTING(LAST, "a number of records", "", "")
 /* clang-format on */

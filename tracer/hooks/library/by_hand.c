@@ -4,6 +4,8 @@
 #include "library/library.h"
 #include "library/streams.h"
 #include "base/tell.h"
+#include "program/hidden.h"
+#include "program/procedures.h"
 
 #define BY_HAND(RESULT, NAME, ...) \
     __attribute__((weak)) RESULT __real_##NAME(__VA_ARGS__); \
@@ -46,6 +48,19 @@ BY_HAND(ENTRY *, hsearch, ENTRY item, ACTION action) {
     return __real_hsearch(item, action);
 }
 
+/* Of all that depends on the locale localeconv alone says so. */
+BY_HAND(char *, setlocale, int which, const char *name) {
+    if (doing.tracing) {
+        NOTE_READ(name, all(name), __wrap_setlocale);
+        NOTE_READ(state(locale), sizeof(int), __wrap_setlocale);
+        NOTE_WRITE(state(locale), name ? sizeof(int) : 0, __wrap_setlocale);
+    }
+    if (name && procedures_run_beside())
+        hidden_tell_not_run("setlocale is called where something else may run: races with what depends on the locale, "
+                            "such as printf, aren't seen");
+    return __real_setlocale(which, name);
+}
+
 /* One side of a conversion: where it stood, and how much was left. */
 static void note_converted(bool writes, char *at, size_t before, char **now, size_t *left, struct caller by) {
     if (!now)
@@ -62,6 +77,7 @@ BY_HAND(size_t, iconv, iconv_t with, char **from, size_t *n, char **to, size_t *
     if (doing.tracing) {
         note_converted(false, first, before, from, n, BY(__wrap_iconv));
         note_converted(true, first_to, before_to, to, m, BY(__wrap_iconv));
+        NOTE_WRITE(with, sizeof(int), __wrap_iconv);
     }
     return result;
 }

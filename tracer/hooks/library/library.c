@@ -5,12 +5,12 @@
 #include "library/streams.h"
 #include "base/tell.h"
 
-int library_state_of_hsearch;
+int library_state_of_hsearch, library_state_of_locale;
 static int library_state_of_rand, library_state_of_drand48, library_state_of_mblen, library_state_of_mbtowc,
     library_state_of_wctomb, library_state_of_mbrlen, library_state_of_mbrtowc, library_state_of_wcrtomb,
     library_state_of_mbrtoc16, library_state_of_c16rtomb, library_state_of_mbsrtowcs, library_state_of_wcsrtombs,
-    library_state_of_environment, library_state_of_locale, library_state_of_textdomain, library_state_of_getpwent,
-    library_state_of_getgrent, library_state_of_setlogmask;
+    library_state_of_environment, library_state_of_textdomain, library_state_of_getpwent, library_state_of_getgrent,
+    library_state_of_setlogmask;
 
 /* ---- Accesses of several pieces ---- */
 

@@ -8,7 +8,7 @@
 
 /* The inner state of functions, which stands for what they read and write inside. */
 #define state(NAME) (&library_state_of_##NAME)
-extern int library_state_of_hsearch;
+extern int library_state_of_hsearch, library_state_of_locale;
 
 /* What the formats of printf and scanf say of their arguments. */
 void library_note_argument(bool writes, uintptr_t at, size_t size, const void *by);

@@ -1,6 +1,7 @@
 #include "openmp/barriers.h"
 
 #include "openmp/children.h"
+#include "openmp/locals.h"
 #include "openmp/loops.h"
 #include "openmp/members.h"
 #include "openmp/notes.h"
@@ -19,20 +20,22 @@ void barriers_join_team(uintptr_t code) {
 
 /* Where a loop's variable is private first and shared at its end, gcc puts a barrier into the loop's first share. */
 void barriers_wait(uintptr_t code) {
-    const struct scope *newest = scopes.newest;
-    bool is_share = newest->kind == SCOPE_SHARE, in_share = is_share && !scopes_thread()->loop->ordered;
+    const struct scope newest = *scopes.newest;
+    bool is_share = newest.kind == SCOPE_SHARE, in_share = is_share && !scopes_thread()->loop->ordered;
     if (in_share)
-        children_close(code);
+        locals_end_share(code);
     if (in_share || !is_share)
         barriers_join_team(code);
-    if (in_share)
-        children_open(SCOPE_SHARE, code);
+    if (!in_share)
+        return;
+    children_open(SCOPE_SHARE, code);
+    locals_begin_share(newest.is_one, newest.own_first);
 }
 
 bool barriers_leaves_to_others(const struct scope *thread) {
     bool asks = thread->team && thread->team->asks;
     if (!team_is_last(thread))
-        return thread->master != 0 || asks;
+        return (thread->master != 0 || asks) != notes.others_do;
     if (thread->master != 0)
         notes_keep(&notes.master_does_more, thread->master);
     if (asks)

@@ -45,6 +45,7 @@ struct scope *children_open(enum scope_kind kind, uintptr_t code) {
         parent->owns = true;
     }
     write_open(SPBAGS_SPAWN, code);
+    scopes.events += kind == SCOPE_TASK;
     return scopes_push(kind, true);
 }
 

@@ -1,6 +1,7 @@
 /* The hooks that spbags-cc puts before bodies. */
 #include "openmp/bodies.h"
 #include "openmp/children.h"
+#include "openmp/locals.h"
 #include "openmp/loops.h"
 #include "openmp/notes.h"
 #include "openmp/parts.h"
@@ -52,6 +53,7 @@ static void begin_child_body(struct body *body, uintptr_t stack_pointer, uintptr
     if (!body->is_child)
         return;
     children_open(SCOPE_SHARE, code);
+    locals_begin_share(true, stack_pointer);
     parts_open(FRAME_LOOP_PART, stack_pointer, code);
     uint64_t number = body->kind == BODY_SECTION ? ++thread->shares : 0;
     frames_note_part((struct frame_part){.of = number > 0 ? "sections" : "single", .first = number, .last = number});
@@ -60,8 +62,7 @@ static void begin_child_body(struct body *body, uintptr_t stack_pointer, uintptr
 static void end_child_body(const struct body *body, uintptr_t code) {
     if (body->is_child) {
         parts_close(code);
-        children_close(code);
-        parts_forget_below(scopes_thread()->stack_end);
+        parts_forget_below(locals_end_share(code));
     }
     silence_follow_body();
 }

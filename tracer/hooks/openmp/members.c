@@ -2,6 +2,7 @@
 
 #include "records/look.h"
 #include "openmp/children.h"
+#include "openmp/locals.h"
 #include "openmp/loops.h"
 #include "openmp/notes.h"
 #include "openmp/parts.h"
@@ -12,6 +13,7 @@
 static void begin_part(struct member *member, uintptr_t code) {
     *children_open(SCOPE_MEMBER, code) = member->scope;
     member->depth = frames_procedures;
+    locals_begin_thread(scopes.newest);
     scopes_follow();
 }
 
@@ -36,6 +38,7 @@ static void end_part(uintptr_t code) {
     frames_left_out_update = false;
     if (doing.tracing)
         close_calls(member, code);
+    locals_end_thread(scope);
     member->scope = *scope;
     member->scope.children = member->scope.others = member->scope.following = 0;
     member->scope.master = 0;
@@ -99,6 +102,7 @@ static void run_member(struct member *member, uintptr_t stack_end) {
     const struct region *region = &team->region;
     if (member->scope.thread > 0)
         member->scope.stack_end = stack_end;
+    member->scope.own_end = member->scope.stack_end;
     begin_part(member, team->code);
     procedures_push(FRAME_TASK_PART, stack_end);
     frames_top->code = team->code;
@@ -137,6 +141,7 @@ static void make_member(struct team *team, unsigned number, const struct scope *
                                    .member = member,
                                    .thread = (int)number,
                                    .stack_end = number == 0 ? around->stack_end : member->stack->first,
+                                   .own_first = member->stack->first,
                                    .threads_wanted = around->threads_wanted,
                                    .period = scope,
                                    .number = scope};
@@ -149,21 +154,13 @@ static bool is_in_share(void) {
     return at->kind == SCOPE_SHARE;
 }
 
-/* Whether a member of the team has a variable of the region there. */
-static bool is_in_region(const struct member *member, uintptr_t address) {
-    return address >= member->stack->first && address < member->scope.stack_end;
-}
-
 /* The compiler's own code before the body, as of copyin, has a barrier behind it. */
 void openmp_note_other(uintptr_t address, uintptr_t code) {
     const struct scope *thread = scopes_thread();
-    bool in_share = is_in_share();
-    for (unsigned at = 0; at < turns.stacks_used && (in_share || thread->in_body); at++)
+    bool is_of_program = thread->in_body || is_in_share();
+    for (unsigned at = 0; at < turns.stacks_used && is_of_program; at++)
         if (&stacks[at] != stacks_running && own_is_of(&turns.own[at], address))
             notes_keep(&notes.others_own, code);
-    for (unsigned number = 0; number < thread->size && in_share && thread->kind == SCOPE_MEMBER; number++)
-        if ((int)number != thread->thread && is_in_region(&thread->team->members[number], address))
-            notes_keep(&notes.others_local, code);
 }
 
 void members_do_region(struct team *team) {

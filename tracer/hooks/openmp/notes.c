@@ -71,10 +71,16 @@ static void tell_others(void) {
         tell_incomplete("%s: this accesses what another thread has of its own, by threadprivate or thread_local. What "
                         "that thread does there isn't recorded: races with it aren't seen",
                         place_of(notes.others_own));
-    if (notes.others_local != 0)
-        tell_incomplete("%s: this accesses another thread's variable of the parallel region, in a loop, sections or a "
-                        "single region. What that thread does there counts as private: races with it aren't seen",
-                        place_of(notes.others_local));
+    if (notes.other_may != 0 && !notes.others_do)
+        tell_unmodelled("others",
+                        "%s: this accesses a variable of the parallel region that its thread also accesses in a single "
+                        "region, a section or a loop of one iteration. Where another thread does that, by a pointer, "
+                        "races of both aren't seen",
+                        place_of(notes.other_may));
+    if (notes.beside_task != 0)
+        tell_incomplete("%s: this accesses a variable of the parallel region that a task accesses too, which its "
+                        "thread has made in a loop, a section or a single region: races of both aren't seen",
+                        place_of(notes.beside_task));
 }
 
 static void tell_depend(void) {

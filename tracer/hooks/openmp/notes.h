@@ -38,9 +38,13 @@ extern struct notes {
     uintptr_t after_ordered;
     /* A task that waited for all before it by its `depend`; and one whose `depend` was ignored. */
     uintptr_t depend_wait, depend_ignored;
-    /* An access of what another thread has of its own; and of another one's variable of the region, in a loop, sections
-       or a single region. */
-    uintptr_t others_own, others_local;
+    /* An access of what another thread has of its own. */
+    uintptr_t others_own;
+    /* An access of a variable of the region that its thread accesses in a single region, a section or a loop of one
+       iteration, and also outside of that; and of one that a task accesses too, which such a share has left. */
+    uintptr_t other_may, beside_task;
+    /* In this run another thread does what any may do than in the first run. */
+    bool others_do;
     /* A region that OpenMP would cancel. */
     uintptr_t cancelled;
 } notes;

@@ -54,6 +54,16 @@ struct scope {
     uint64_t shares, taken;
     uint32_t loops_met, singles_met;
     uintptr_t master;
+    /* Of a share, and of a member: which variables are its thread's own; and the stack's quick end before. */
+    uintptr_t own_first, own_end, quick_end;
+    /* Of a share: whether no other thread does the same; how many locals are those of shares around, and the last
+       number before. */
+    bool is_one;
+    size_t locals;
+    uint64_t last_number;
+    /* Of a member: no other phase has this number; and marks from this one on are of it. */
+    uint64_t phase;
+    uint32_t phase_mark;
     /* It is in the program's own code of its region; its next barrier is clang's alone. */
     bool in_body, skips_barrier;
     /* No other scope has this number. */
@@ -66,6 +76,8 @@ enum { SCOPE_MOST = FRAME_MOST_DEPTH + 3 };
 extern struct scopes {
     struct scope *first, *newest;
     uint64_t begun;
+    /* How many tasks have been made, and how often a thread has begun what it does up to a barrier. */
+    uint64_t events;
 } scopes;
 
 /* The program's beginning. */

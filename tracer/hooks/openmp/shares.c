@@ -2,6 +2,7 @@
 
 #include "openmp/barriers.h"
 #include "openmp/children.h"
+#include "openmp/locals.h"
 #include "openmp/notes.h"
 #include "openmp/parts.h"
 #include "openmp/silence.h"
@@ -50,10 +51,10 @@ static uint64_t next_size(const struct scope *thread) {
 /* What the thread does behind a block comes after that. */
 static void end_share(const struct scope *thread, uintptr_t code) {
     parts_close(code);
-    children_close(code);
+    uintptr_t stack_pointer = locals_end_share(code);
     if (thread->loop->in_blocks)
         children_join_from(scopes.newest, code);
-    parts_forget_below(thread->stack_end);
+    parts_forget_below(stack_pointer);
 }
 
 /* The iterations of the share that has begun now go from this one to the newest. */
@@ -61,6 +62,13 @@ static void note_share(const struct loop *loop, uint64_t first) {
     frames_note_part((struct frame_part){.of = loop->is_sections ? "sections" : "loop",
                                          .first = first,
                                          .last = loop->start + (loop->begun - 1) * loop->step});
+}
+
+/* Whether no other thread does an iteration like those of this one. */
+static bool is_one(const struct scope *thread) {
+    const struct loop *loop = thread->loop;
+    bool is_whole = thread->team && thread->team->region.whole;
+    return !is_whole && (loop->is_sections || loop->ordered || loop->count == 1);
 }
 
 /* A block is no child, but a part of what its thread does. */
@@ -73,6 +81,7 @@ static void begin_share(const struct scope *thread, uint64_t first, uintptr_t st
         return;
     if (!loop->ordered)
         children_open(SCOPE_SHARE, loop->code);
+    locals_begin_share(is_one(thread), stack_pointer);
     parts_open(FRAME_LOOP_PART, stack_pointer, loop->code);
     note_share(loop, first);
 }
@@ -91,6 +100,7 @@ static bool has_following(const struct scope *thread) {
 static void begin_following(bool is_child, uintptr_t stack_pointer, uintptr_t code) {
     if (is_child) {
         children_open(SCOPE_SHARE, code)->follows_loop = true;
+        locals_begin_share(false, stack_pointer);
         parts_open(FRAME_LOOP_PART, stack_pointer, code);
         frames_note_part((struct frame_part){.of = "reduction"});
     }
@@ -109,8 +119,7 @@ void shares_begin_combining(uintptr_t stack_pointer, uintptr_t code) {
 void shares_end_following(uintptr_t code) {
     if (scopes.newest->follows_loop) {
         parts_close(code);
-        children_close(code);
-        parts_forget_below(scopes_thread()->stack_end);
+        parts_forget_below(locals_end_share(code));
     }
     silence_follow_body();
 }

@@ -53,8 +53,7 @@ static void leave_stack(void) {
 
 static void enter_stack(struct stack *stack) {
     stacks_running = stack;
-    stacks_running_first = stack->first;
-    stacks_running_size = stack->end - stack->first;
+    stacks_follow_running();
     frames_all = stack->frames;
     frames_end = stack->frames_end;
     frames_top = stack->top;
@@ -160,6 +159,7 @@ struct stack *turns_next_stack(const struct turn *turn, struct member *member, u
     struct stack *stack = &stacks[turns.stacks_used++];
     stack->top = stack->frames;
     *stack->top = (struct frame){.kind = FRAME_ROOT, .end = UINTPTR_MAX, .node = node};
+    stack->quick_end = stack->own_end = stack->end;
     stack->grouped = stack->silent_frame = NULL;
     stack->newest_body = stack->bodies;
     kept[stack - stacks].count = stack->initialising = stack->hidden_updates = 0;

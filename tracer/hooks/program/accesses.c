@@ -126,7 +126,10 @@ static inline void first_granules(bool writes, uintptr_t at, size_t size, uintpt
     struct block_touched in = blocks_at(at);
     unsigned granule = blocks_granule_at(at);
     if (__builtin_expect(locations_may_begin_quick(&in), 1))
-        locations_begin_quick(writes, &in, granule, size >> GRANULE_USUAL_SHIFT);
+        locations_begin_quick(writes, &in, granule, size >> GRANULE_USUAL_SHIFT, code);
+    else if (in.block->quick_place != 0 && records_site_is_code())
+        records_note_in_block(
+            writes, &in, blocks_new(writes, in.done, blocks_granules_from(granule, size >> GRANULE_USUAL_SHIFT)), code);
     else if (strands_noted_quickly)
         locations_touch_block(writes, at, at + size, code);
     else
@@ -136,27 +139,32 @@ static inline void first_granules(bool writes, uintptr_t at, size_t size, uintpt
 }
 
 /* This is all where sites are noted quickly, for the granules of an access of which the first one that isn't noted has
-   this byte: it has the only site, and remembers that, or one of several. If a signal ends the run before the site
-   stands there, it isn't known. */
+   this byte: it has the only site or one of several, and remembers which. If a signal ends the run before the site stands
+   there, it isn't known. */
 static inline bool has_quick_site(bool writes, uintptr_t at, size_t size, uint8_t *done, uintptr_t code,
                                   uint64_t *remembered) {
     /* Of this period, whatever a handler of a signal makes of that. */
     const uint64_t block = blocks_remembered(done);
     changes_in_order();
-    const uint16_t place = blocks_of_row(blocks_regions[blocks_region_of(at)], at, done)->quick_place;
-    if (place == 0 || guards_held > 0)
-        return false;
-    const size_t number = (size_t)place - 1;
-    const uint64_t only = strands_part.only_sites[number][writes];
-    uint32_t *site = &strands_part.sites[number][writes][(uintptr_t)done % BLOCK_GRANULES];
+    uint64_t place = *remembered ^ block, only = STRAND_SEVERAL_SITES;
+    if (place == 0 || place >= BLOCK_GRANULES) {
+        place = blocks_of_row(blocks_regions[blocks_region_of(at)], at, done)->quick_place;
+        if (place == 0 || guards_held > 0)
+            return false;
+        only = strands_part.only_sites[place - 1][writes];
+    }
+    uint32_t *site = &strands_part.sites[place - 1][writes][(uintptr_t)done % BLOCK_GRANULES];
     const bool has_two =
         size >> GRANULE_USUAL_SHIFT == 2 && (uintptr_t)done % 2 == 0 && !blocks_was_done(writes, done[1]);
-    if (only == code)
+    if (only == code) {
         *remembered = block;
-    else if (only == STRAND_SEVERAL_SITES)
+    } else if (only == STRAND_SEVERAL_SITES) {
+        if (place < BLOCK_GRANULES)
+            *remembered = block | place;
         site[0] = site[has_two] = (uint32_t)code;
-    else
+    } else {
         return false;
+    }
     if (has_two)
         blocks_set_bit(&done[1], writes ? BLOCK_WROTE : BLOCK_READ);
     return true;
@@ -165,16 +173,18 @@ static inline bool has_quick_site(bool writes, uintptr_t at, size_t size, uint8_
 /* What the text in inline_checks.h calls for such an access that isn't noted quickly, with the byte of the first
    granule that isn't, which says already that this is done, and what the access remembers; of the stack, where it is no
    repeat, with the mark; and for the rest. */
-__attribute__((noinline)) static void note_first(bool writes, uintptr_t at, size_t size, uint8_t *done,
-                                                 uintptr_t code) {
+__attribute__((noinline)) static void note_first(bool writes, uintptr_t at, size_t size, uint8_t *done, uintptr_t code,
+                                                 uint64_t *remembered) {
     blocks_clear_bit(done, writes ? BLOCK_WROTE : BLOCK_READ);
     first_granules(writes, at, size, code);
+    if (doing.keeping_places)
+        has_quick_site(writes, at, size, done, code, remembered);
 }
 
 #define BEHIND_TEST(KIND, WRITES, SIZE) \
     void __spbags_block_##KIND##SIZE(uintptr_t at, uint8_t *done, uint64_t *remembered) { \
         if (!has_quick_site(WRITES, at, SIZE, done, CODE, remembered)) \
-            note_first(WRITES, at, SIZE, done, CODE); \
+            note_first(WRITES, at, SIZE, done, CODE, remembered); \
     } \
     void __spbags_stack_##KIND##SIZE(uintptr_t at, uint32_t *mark) { note_usual_marks(WRITES, at, SIZE, mark, CODE); } \
     void __spbags_long_##KIND##SIZE(void *at) { OFTEN(WRITES, at, SIZE); }

@@ -40,11 +40,25 @@ static void clear_mark(uint32_t *mark) {
     *mark = MARK_UNTOUCHED;
 }
 
+/* That of a granule that has been accessed. */
+static uint64_t location_of(uintptr_t granule) {
+    return stacks_have(granule) ? 2 * *marks_number(marks_at(granule)) + 1 : blocks_location(granule);
+}
+
+static void clear_parts(uintptr_t address, uintptr_t end) {
+    if (byte_granular_any)
+        byte_granular_clear(address, end);
+    if (doing.looking) {
+        look_note_part(location_of(address & ~granules_mask), 0);
+        look_note_part(location_of(end & ~granules_mask), 0);
+    }
+}
+
 /* A granule that is partly another variable's keeps its number. */
 void locations_clear(uintptr_t address, size_t size) {
     uintptr_t first = (address + granules_mask) & ~granules_mask, end = (address + size) & ~granules_mask;
-    if (((address | size) & granules_mask) != 0 && byte_granular_any)
-        byte_granular_clear(address, address + size);
+    if (((address | size) & granules_mask) != 0)
+        clear_parts(address, address + size);
     if (end - stacks_first <= stacks_size)
         for (; first < end; first += granules_mask + 1)
             clear_mark(marks_at(first));
@@ -55,7 +69,7 @@ void locations_clear(uintptr_t address, size_t size) {
 void locations_note_stack(bool writes, uintptr_t address, uint32_t *mark, unsigned shift, uintptr_t code) {
     bool marks_write = writes;
     if (!stacks_is_of_running(address))
-        openmp_note_other(address, code);
+        openmp_note_stack(writes, address, mark, code);
     if (__builtin_expect(views_any, 0)) {
         enum view_update update = views_update_of(address, shift, marks_is_repeat(false, *mark));
         if (update != VIEW_NO_UPDATE && marks_is_repeat(false, *mark))
@@ -124,6 +138,13 @@ uintptr_t locations_touch_block(bool writes, uintptr_t granule, uintptr_t end, u
     return part.end;
 }
 
+/* The bytes that the access at hand reaches of a granule, if it doesn't fill it. */
+static void note_part(uintptr_t granule) {
+    const unsigned left_out = granules_bytes_left_out(granule), all = (1u << (granules_mask + 1)) - 1;
+    if (left_out != 0)
+        look_note_part(location_of(granule), all & ~left_out);
+}
+
 /* No memory of the program reaches further than its addresses do. */
 void locations_touch(bool writes, uintptr_t address, size_t size, uintptr_t code) {
     const uintptr_t most = (uintptr_t)1 << 47;
@@ -142,6 +163,10 @@ void locations_touch(bool writes, uintptr_t address, size_t size, uintptr_t code
     uintptr_t granule = address & ~granules_mask;
     while (granule < address + size)
         granule = (stacks_have(granule) ? touch_stack : locations_touch_block)(writes, granule, address + size, code);
+    if (doing.looking && granules_partial.end != 0) {
+        note_part(address & ~granules_mask);
+        note_part((address + size - 1) & ~granules_mask);
+    }
     granules_partial.end = 0;
 }
 

@@ -129,11 +129,15 @@ void locations_note_granule(bool writes, const struct block_touched *in, unsigne
                             uintptr_t code);
 
 /* Nothing of the block has been accessed, and it is the program's alone. From now on the first accesses to its granules
-   are noted quickly, and these are noted. */
-static inline void locations_begin_quick(bool writes, const struct block_touched *in, unsigned first, size_t count) {
+   are noted quickly, or the sites there, and these are noted. */
+static inline void locations_begin_quick(bool writes, const struct block_touched *in, unsigned first, size_t count,
+                                         uintptr_t code) {
     recent_begin();
     strands_list(in);
-    blocks_set_in_all(in->done, BLOCK_QUICK);
+    if (doing.keeping_places)
+        strands_begin_quick_sites(writes, in, code);
+    else
+        blocks_set_in_all(in->done, BLOCK_QUICK);
     for (size_t at = 0; at < count; at++)
         blocks_set_bit(&in->done[first + at], writes ? BLOCK_WROTE : BLOCK_READ);
     recent_finish();
@@ -146,7 +150,7 @@ static inline bool locations_is_looked_at(const struct block_touched *in) {
 static inline bool locations_may_begin_quick(const struct block_touched *in) {
     const struct block *block = in->block;
     return strands_noted_quickly && block->place == 0 && block->dead == 0 && !block->has_own &&
-           !locations_is_looked_at(in) && !doing.keeping_places;
+           !locations_is_looked_at(in) && records_site_is_code();
 }
 
 /* What this memory touches of the block in which it begins; the end of that. */

@@ -39,6 +39,10 @@ struct race {
     uint32_t pair;
     uintptr_t address;
     struct owner frame, data;
+    /* The bytes that those accesses reach that don't fill the unit; and whether they differ in these, or another life
+       began meanwhile. */
+    uint8_t part;
+    bool has_parts;
     /* Whether it is of a reducer's view. */
     bool is_view;
     /* How many entries of guards were noted before the first access; and the one of its guards that the second one's
@@ -400,10 +404,23 @@ static void take_look(struct race *race, struct look *look, uintptr_t address, u
     race->waits = 0;
 }
 
+static struct race *race_of(uint64_t location) {
+    struct race *race = may_race(location) ? &races[race_from(location)] : NULL;
+    return race && race < races + races_count && race->location == location ? race : NULL;
+}
+
+void look_note_part(uint64_t location, unsigned bytes) {
+    struct race *race = race_of(location);
+    if (!race)
+        return;
+    race->has_parts |= bytes == 0 || (race->part != 0 && race->part != bytes);
+    race->part |= bytes;
+}
+
 /* It may be one of the report, if that has its location and its kind at one of the places that what is pending gets. */
 void look_note_pending(bool writes, uint64_t location, uintptr_t address, uintptr_t code) {
-    struct race *race = may_race(location) ? &races[race_from(location)] : NULL;
-    if (!race || race == races + races_count || race->location != location)
+    struct race *race = race_of(location);
+    if (!race)
         return;
     steps_put_rest();
     struct look *look = race->first.place > look_place_now ? &race->first : &race->second;
@@ -532,9 +549,18 @@ static void put_side(const char *name, const struct look *look, uint32_t meets) 
     put_child(look->node, meets);
 }
 
-static void put_owner(struct owner owner) {
+static bool is_narrow(const struct race *race) { return race->first.is_narrow || race->second.is_narrow; }
+
+/* The bytes that each access of the unit reaches, where some don't fill it: no neighbours race there. Or none. */
+static unsigned part_of(const struct race *race) { return is_narrow(race) && !race->has_parts ? race->part : 0; }
+
+static uintptr_t address_of(const struct race *race) {
+    return race->address + (part_of(race) != 0 ? (unsigned)__builtin_ctz(part_of(race)) : 0);
+}
+
+static void put_owner(struct owner owner, unsigned byte) {
     put(" %lx", owner.code);
-    put(" %" PRIdPTR, owner.offset);
+    put(" %" PRIdPTR, owner.offset + (intptr_t)byte);
 }
 
 static bool owner_goes_on(struct owner before, struct owner owner) {
@@ -557,7 +583,8 @@ static bool has_stacks_of(const struct race *race, const struct race *other) {
 
 /* Whether this race is of the unit behind that of the one before, in one pair. */
 static bool goes_on(const struct race *before, const struct race *race) {
-    return !granules_is_byte(race->location) && race->pair == before->pair && race != pairs[race->pair].race &&
+    return !granules_is_byte(race->location) && part_of(before) == 0 && part_of(race) == 0 &&
+           race->pair == before->pair && race != pairs[race->pair].race &&
            race->address == before->address + granules_mask + 1 && owner_goes_on(before->frame, race->frame) &&
            owner_goes_on(before->data, race->data) && has_stacks_of(before, race);
 }
@@ -576,7 +603,7 @@ static void put_pair(const struct pair *pair, const struct race *race) {
     uint32_t meets = meeting(race->first.node, race->second.node);
     put("pair %" PRIu64, pair->count);
     put(" %" PRIu64, granules_of(race->location));
-    put(" %lx", race->address);
+    put(" %lx", address_of(race));
     put(" %u", nodes[meets].functions);
     put(" %d\n", pair->is_narrow);
     put_side("first", &race->first, meets);
@@ -639,8 +666,10 @@ static void put_in_block(const struct race *race, size_t units) {
     struct pair *pair = &pairs[race->pair];
     const struct allocation *allocation = allocation_of(race->address);
     size_t unit = granules_mask + 1;
-    uintptr_t begin = allocation ? race->address - allocation->address : 0;
-    size_t length = granules_is_byte(race->location) ? 1 : units * unit - race->address % unit;
+    uintptr_t begin = allocation ? address_of(race) - allocation->address : 0;
+    size_t length = granules_is_byte(race->location) ? 1
+                    : part_of(race) != 0             ? course_count(part_of(race))
+                                                     : units * unit - race->address % unit;
     if (!allocation || (begin == pair->begin && length == pair->length))
         return;
     pair->begin = begin;
@@ -648,6 +677,23 @@ static void put_in_block(const struct race *race, size_t units) {
     put("held %u", race->pair);
     put(" %" PRIuPTR, begin);
     put(" %zu\n", length);
+}
+
+static void put_row(const struct race *race, uint32_t pair, uint64_t location, size_t units, unsigned byte) {
+    put(pair != 0 ? "at %u" : "other %u", pair != 0 ? pair : race->pair);
+    put(" %" PRIu64, location);
+    put(" %zu", units);
+    put(" %lx", race->address + byte);
+    put_owner(race->frame, byte);
+    put_owner(race->data, byte);
+    put("\n");
+}
+
+static void put_bytes(const struct race *race, uint32_t pair) {
+    for (unsigned part = part_of(race); part != 0; part &= part - 1) {
+        const unsigned byte = (unsigned)__builtin_ctz(part);
+        put_row(race, pair, granules_first_byte + GRANULE_MOST_BYTES * race->location + byte, 1, byte);
+    }
 }
 
 /* What races in each pair: a row of units, or a byte. */
@@ -663,21 +709,18 @@ static void put_addresses(void) {
             continue;
         }
         uint32_t pair = pair_for(race, end - at);
-        put(pair != 0 ? "at %u" : "other %u", pair != 0 ? pair : race->pair);
-        put(" %" PRIu64, race->location);
-        put(" %zu", end - at);
-        put(" %lx", race->address);
-        put_owner(race->frame);
-        put_owner(race->data);
-        put("\n");
+        if (part_of(race) == 0)
+            put_row(race, pair, race->location, end - at, 0);
+        else
+            put_bytes(race, pair);
     }
 }
 
-/* The units that accesses of races don't fill. */
+/* The units that accesses of races don't fill; and whether neighbours may race there, if the first run did the same. */
 static void put_narrow(void) {
     for (const struct race *race = races; race < races + races_count; race++)
-        if (race->pair != 0 && (race->first.is_narrow || race->second.is_narrow))
-            put("narrow %" PRIu64 "\n", granules_of(race->location));
+        if (race->pair != 0 && is_narrow(race))
+            put(part_of(race) == 0 ? "narrow %" PRIu64 "\n" : "part %" PRIu64 "\n", granules_of(race->location));
 }
 
 void look_put_notes(void) {

@@ -33,6 +33,8 @@ void look_at_wait(const struct frame *frame, uintptr_t code, bool ends);
 /* An access that goes out later, and all such go out. */
 void look_note_pending(bool writes, uint64_t location, uintptr_t address, uintptr_t code);
 void look_forget_pending(void);
+/* An access reaches these bytes of a unit and not all; or some begin another life, which has none. */
+void look_note_part(uint64_t location, unsigned bytes);
 /* A block of the heap begins, for which DEAD stands if it dies in the strand of its birth, or 0. */
 void look_at_block(uintptr_t address, size_t size, uint64_t dead, uintptr_t stack_pointer, uintptr_t code);
 void look_put_notes(void);

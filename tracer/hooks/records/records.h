@@ -17,10 +17,14 @@ static inline uint64_t records_site(uintptr_t granule, uintptr_t code) {
     return places_site_word(granules_bytes_left_out(granule) != 0, code);
 }
 
-/* Of an access at hand, which fills its granule and holds nothing. */
+/* Whether the site of the access at hand is its code alone, or isn't kept: it fills its granule, and holds nothing. */
+ALWAYS_INLINE bool records_site_is_code(void) {
+    return !doing.keeping_places || (guards_held == 0 && granules_partial.end == 0);
+}
+
+/* Of such an access. */
 ALWAYS_INLINE bool records_find_access_bits(uintptr_t code, uint64_t *bits) {
-    return places_find_site_bits(code, bits) &&
-           !(doing.keeping_places && (guards_held > 0 || granules_partial.end != 0));
+    return places_find_site_bits(code, bits) && records_site_is_code();
 }
 
 static inline void records_step(bool writes, uint64_t location, uintptr_t address, uintptr_t code) {

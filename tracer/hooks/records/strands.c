@@ -161,21 +161,30 @@ static void step_words(unsigned kind, uint64_t location, const uint64_t *words, 
         changes_end_step();
 }
 
-static inline __m128i four_of_site(const uint32_t *sites, __m128i site) {
-    return _mm_cmpeq_epi32(_mm_load_si128((const void *)sites), site);
+static inline __m128i four_like(const uint32_t *sites, const uint32_t *others) {
+    return _mm_cmpeq_epi32(_mm_load_si128((const void *)sites), _mm_loadu_si128((const void *)others));
 }
 
-/* The block's granules that have this site. */
-static uint64_t granules_of_site(const uint32_t *sites, uint32_t site) {
-    const __m128i wanted = _mm_set1_epi32((int)site);
+/* The block's granules whose sites are like the others, which are so far apart for each four. */
+static inline uint64_t granules_like(const uint32_t *sites, const uint32_t *others, unsigned apart) {
     uint64_t granules = 0;
-    for (unsigned part = 0; part < BLOCK_GRANULES; part += 16) {
-        const uint32_t *of = sites + part;
-        const __m128i first = _mm_packs_epi32(four_of_site(of, wanted), four_of_site(of + 4, wanted)),
-                      last = _mm_packs_epi32(four_of_site(of + 8, wanted), four_of_site(of + 12, wanted));
+    for (unsigned part = 0; part < BLOCK_GRANULES; part += 16, sites += 16, others += 4 * apart) {
+        const __m128i first = _mm_packs_epi32(four_like(sites, others), four_like(sites + 4, others + apart)),
+                      last = _mm_packs_epi32(four_like(sites + 8, others + 2 * apart),
+                                             four_like(sites + 12, others + 3 * apart));
         granules |= (uint64_t)(unsigned)_mm_movemask_epi8(_mm_packs_epi16(first, last)) << part;
     }
     return granules;
+}
+
+static uint64_t granules_of_site(const uint32_t *sites, uint32_t site) {
+    const uint32_t four[] = {site, site, site, site};
+    return granules_like(sites, four, 0);
+}
+
+/* Those of these granules that don't have the site of one of them right before. */
+static uint64_t first_of_runs(const uint32_t *sites, uint64_t granules) {
+    return granules & ~(granules_like(sites, sites - 1, 4) & granules << 1);
 }
 
 /* A bit for each of these granules, one behind the other: whether it is one of those. */
@@ -188,20 +197,20 @@ static uint64_t bits_among(uint64_t granules, uint64_t those) {
     return bits;
 }
 
-static uint64_t *put_runs(uint64_t *at, const uint32_t *sites, uint64_t granules) {
-    for (uint64_t last = UINT64_MAX; granules != 0; granules &= granules - 1) {
-        const uint32_t site = sites[__builtin_ctzll(granules)];
-        if (site != last)
-            *at++ = places_number_of_short(site);
-        last = site;
-        at[-1] += 1 << 16;
+static uint64_t *put_runs(uint64_t *at, const uint32_t *sites, uint64_t granules, uint64_t firsts) {
+    while (firsts != 0) {
+        const uint32_t site = sites[__builtin_ctzll(firsts)];
+        firsts &= firsts - 1;
+        const uint64_t rest = firsts != 0 ? granules & -(firsts & -firsts) : 0;
+        *at++ = (uint64_t)course_count(granules ^ rest) << 16 | places_number_of_short(site);
+        granules = rest;
     }
     return at;
 }
 
 /* For the detector's thread: how many records one after another have one site, or two that take turns. */
 static uint64_t *put_sites(uint64_t *at, bool writes) {
-    enum { FEW_TURNS = 6 };
+    enum { FEW_RUNS = 6 };
     const uint64_t granules = going_out.granules[writes];
     if (granules == 0)
         return at;
@@ -211,13 +220,14 @@ static uint64_t *put_sites(uint64_t *at, bool writes) {
         return at;
     }
     const uint32_t *sites = sites_of_granules(writes), first = sites[__builtin_ctzll(granules)];
+    const uint64_t firsts = first_of_runs(sites, granules);
+    if (course_count(firsts) <= FEW_RUNS)
+        return put_runs(at, sites, granules, firsts);
     const uint64_t others = granules & ~granules_of_site(sites, first);
-    if (others == 0)
-        return put_runs(at, sites, granules);
-    const uint32_t other = sites[__builtin_ctzll(others)];
+    const uint32_t other = others == 0 ? first : sites[__builtin_ctzll(others)];
+    if ((others & ~granules_of_site(sites, other)) != 0)
+        return put_runs(at, sites, granules, firsts);
     const uint64_t bits = bits_among(granules, others);
-    if ((others & ~granules_of_site(sites, other)) != 0 || course_count(bits ^ bits << 1) <= FEW_TURNS)
-        return put_runs(at, sites, granules);
     *at++ = PLACES_TURNS | count << 32 | (uint64_t)places_number_of_short(other) << 16 | places_number_of_short(first);
     *at++ = bits;
     return at;

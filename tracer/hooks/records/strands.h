@@ -53,6 +53,11 @@ static inline void strands_list(const struct block_touched *touched) {
     strands_place(touched);
 }
 
+/* A block that has got its place has this only site, and sites are noted there quickly. */
+static inline void strands_begin_quick_sites(bool writes, const struct block_touched *in, uint64_t site) {
+    in->block->quick_place = in->block->place;
+    strands_part.only_sites[in->block->place - 1][writes] = site;
+}
 /* The site of these granules, which are new in a block that has its place. */
 void strands_note_sites(bool writes, const struct block_touched *in, uint64_t granules, uint64_t word);
 /* Those of the block with this number in the list have gone out, if there were any. */

@@ -193,6 +193,8 @@ static size_t races_count;
 
 /* The program's thread waits meanwhile. */
 static void put_report(void) {
+    races_count = spbags_race_count(at_hand.session);
+    detector_has_races = races_count > 0;
     uint8_t status = spbags_report(at_hand.session);
     if (status != SPBAGS_TAKEN)
         refuse_step(status);
@@ -202,8 +204,6 @@ static void put_report(void) {
             *output_room(&output_of_run) = (char)byte;
             output_of_run.used++;
         }
-    races_count = lines > 0 ? lines - 1 : 0;
-    detector_has_races = races_count > 0;
 }
 
 void detector_tell_next(void) {
@@ -221,7 +221,7 @@ void detector_tell_next(void) {
 }
 
 /* How much was taken, as spbags-run shows it of a long run: a page of its file. */
-static struct shown_progress { uint64_t spawns, accesses; } own_progress, *progress = &own_progress;
+static struct shown_progress { uint64_t spawns, accesses, races; } own_progress, *progress = &own_progress;
 
 void detector_share_progress(int file) {
     struct shown_progress *page = memory_reserve(sizeof *page);
@@ -234,6 +234,7 @@ static void show_progress(void) {
     struct shown_progress *page = __atomic_load_n(&progress, __ATOMIC_ACQUIRE);
     page->spawns = at_hand.spawns;
     page->accesses = at_hand.accesses;
+    page->races = spbags_race_count(at_hand.session);
 }
 
 static void *detect(void *nothing) {

@@ -115,7 +115,7 @@ static void find_stack(void) {
     stacks_first = stacks_running_first - room;
     stacks_size = room + stacks_running_size;
     stacks[0].first = stacks_running_first;
-    stacks[0].end = stacks_running_first + stacks_running_size;
+    stacks[0].end = stacks[0].quick_end = stacks[0].own_end = stacks_running_first + stacks_running_size;
     marks_begin(stacks_first, end);
     frames_begin(size);
 }

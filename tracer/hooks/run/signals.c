@@ -6,6 +6,7 @@
 #include "run/ends.h"
 #include "shadow/stacks.h"
 #include "base/tell.h"
+#include "program/accesses.h"
 #include "program/watch.h"
 
 enum { LAST_SIGNAL = 64 };
@@ -132,7 +133,7 @@ static void follow_handler(int number, sighandler_t wanted) {
 
 /* For the program the handler above is the system's own end by a signal, and where it wants that, it gets the
    handler. */
-int __wrap_sigaction(int number, const struct sigaction *wanted, struct sigaction *before) {
+static int set_action(int number, const struct sigaction *wanted, struct sigaction *before) {
     bool ends = wanted && wanted->sa_handler == SIG_DFL && ends_is_traced() && !is_harmless(number);
     if (wanted && !ends)
         follow_handler(number, wanted->sa_handler);
@@ -142,10 +143,19 @@ int __wrap_sigaction(int number, const struct sigaction *wanted, struct sigactio
     return answer;
 }
 
+int __wrap_sigaction(int number, const struct sigaction *wanted, struct sigaction *before) {
+    if (doing.tracing)
+        NOTE_READ(wanted, wanted ? sizeof *wanted : 0, __wrap_sigaction);
+    int answer = set_action(number, wanted, before);
+    if (doing.tracing)
+        NOTE_WRITE(before, answer == 0 && before ? sizeof *before : 0, __wrap_sigaction);
+    return answer;
+}
+
 static sighandler_t set_handler(sighandler_t set(int, sighandler_t), int number, sighandler_t wanted) {
     struct sigaction usual = {.sa_handler = SIG_DFL}, before;
     if (wanted == SIG_DFL)
-        return __wrap_sigaction(number, &usual, &before) == 0 ? before.sa_handler : SIG_ERR;
+        return set_action(number, &usual, &before) == 0 ? before.sa_handler : SIG_ERR;
     follow_handler(number, wanted);
     sighandler_t replaced = set(number, wanted);
     return (void *)replaced == (void *)on_signal ? SIG_DFL : replaced;

@@ -57,8 +57,9 @@ static inline intptr_t blocks_row_of(uintptr_t address) {
 }
 
 /* In a run that keeps places an access of the program's text remembers the block that it alone reads, or writes, as far
-   as sites are noted quickly there: by the address of the block's bytes, and the period in the first bits. When that
-   may be so no more, another period begins. */
+   as sites are noted quickly there: by the address of the block's bytes, and the period in the first bits. Of a block
+   with several sites it remembers the place in the last bits, if that is one of the first. When that may be so no more,
+   another period begins. */
 #ifndef PERIOD_SHIFT
 #define PERIOD_SHIFT 47
 #endif

@@ -16,6 +16,8 @@ struct turn;
 
 struct stack {
     uintptr_t first, end;
+    /* What is done from the first of these on up to the second isn't noted quickly. */
+    uintptr_t quick_end, own_end;
     /* No mark of it stands below this address. */
     uintptr_t lowest;
     struct frame *frames, *frames_end, *top, *grouped, *silent_frame;
@@ -29,9 +31,10 @@ struct stack {
 };
 extern struct stack stacks[STACK_MOST];
 extern unsigned stacks_count;
-/* The one that runs, its memory, and the thread that has it, by its pointer. */
+/* The one that runs, its memory below its quick end and above its own end, and the thread that has it, by its
+   pointer. */
 extern struct stack *stacks_running;
-extern uintptr_t stacks_running_first, stacks_running_size;
+extern uintptr_t stacks_running_first, stacks_running_size, stacks_above_first, stacks_above_size;
 /* No mark of it stands below this address, which begins a granule. */
 extern uintptr_t stacks_lowest __asm__("__spbags_lowest");
 extern void *stacks_running_thread;
@@ -53,10 +56,28 @@ static inline struct stack *stacks_find(uintptr_t address) {
     return at < stacks_count ? &stacks[at] : NULL;
 }
 
-/* A granule of a stack that doesn't run has a number from now on. */
+/* What is noted quickly is so from now on. */
+static inline void stacks_follow_running(void) {
+    stacks_running_first = stacks_running->first;
+    stacks_running_size = stacks_running->quick_end - stacks_running->first;
+    stacks_above_first = stacks_running->own_end;
+    stacks_above_size = stacks_running->end - stacks_running->own_end;
+}
+
+static inline void stacks_set_quick_end(uintptr_t address) {
+    stacks_running->quick_end = address;
+    stacks_follow_running();
+}
+
+/* A granule that isn't noted quickly has a number from now on. */
 __attribute__((cold)) void stacks_lower_other(uintptr_t address);
 
+/* Whether it is the running one's, and noted quickly. */
 static inline bool stacks_is_of_running(uintptr_t address) {
+#ifdef SPBAGS_OPENMP
+    if (address - stacks_above_first < stacks_above_size)
+        return true;
+#endif
     return address - stacks_running_first < stacks_running_size;
 }
 

@@ -23,8 +23,18 @@ static bool is_constant(tree base) {
            (DECL_P(base) && TREE_READONLY(base) && is_global_var(base) && !TREE_SIDE_EFFECTS(base));
 }
 
+/* The variable whose address a reference has been given, or the reference's base itself. */
+static tree variable_behind(tree base) {
+    tree pointer = TREE_CODE(base) == MEM_REF ? TREE_OPERAND(base, 0) : NULL_TREE;
+    if (!pointer || TREE_CODE(pointer) != SSA_NAME || !gimple_assign_single_p(SSA_NAME_DEF_STMT(pointer)))
+        return base;
+    tree address = gimple_assign_rhs1(SSA_NAME_DEF_STMT(pointer));
+    return TREE_CODE(address) == ADDR_EXPR ? TREE_OPERAND(address, 0) : base;
+}
+
 /* What the compiler itself keeps, of whether a variable is initialised: who comes later waits, or has its own. */
-static bool is_of_initialisation(tree base) {
+static bool is_of_initialisation(tree reference) {
+    tree base = variable_behind(reference);
     if (!VAR_P(base) || !DECL_ARTIFICIAL(base) || !is_global_var(base) || !DECL_NAME(base))
         return false;
     const char *name = IDENTIFIER_POINTER(DECL_NAME(base));

@@ -27,6 +27,7 @@
 #include "attribs.h"
 #include "builtins.h"
 #include "cfganal.h"
+#include "cfgexpand.h"
 #include "cgraph.h"
 #include "context.h"
 #include "diagnostic.h"

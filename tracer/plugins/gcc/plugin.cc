@@ -20,6 +20,16 @@ static bool is_traced(function *fun) {
            !lookup_attribute("naked", DECL_ATTRIBUTES(fun->decl)) && !fun->is_thunk;
 }
 
+/* A call of a function of the program that is declared to do nothing but read is a call like others: else the compiler
+   leaves out one whose result nobody uses. */
+static void read_declaration(void *given, void *) {
+    tree decl = static_cast<tree>(given);
+    if (TREE_CODE(decl) != FUNCTION_DECL || fndecl_built_in_p(decl) || DECL_IN_SYSTEM_HEADER(decl))
+        return;
+    DECL_PURE_P(decl) = 0;
+    TREE_READONLY(decl) = 0;
+}
+
 static unsigned put_reducers(function *fun) {
     reducers_put(fun);
     return 0;
@@ -107,6 +117,8 @@ int plugin_init(plugin_name_args *given, plugin_gcc_version *version) {
             checks_begin(given->base_name);
     hooks_begin(given->base_name);
     reducers_begin(given->base_name);
+    register_callback(given->base_name, PLUGIN_FINISH_DECL, read_declaration, nullptr);
+    register_callback(given->base_name, PLUGIN_FINISH_PARSE_FUNCTION, read_declaration, nullptr);
     for (const place &where : places) {
         register_pass_info made = {new pass(where), where.beside, where.instance, where.where};
         register_callback(given->base_name, PLUGIN_PASS_MANAGER_SETUP, nullptr, &made);

@@ -121,14 +121,15 @@ class reducer_uses {
     }
 
   private:
-    /* The view, and the hook before the statement that uses it. */
+    /* The view, what that is by variables of the program, and the hook before the statement that uses it. */
     struct use {
-        tree view;
+        tree view, named;
         gcall *hook;
     };
     std::vector<use> all;
-    /* What sets a temporary variable, and on what its value depends. */
+    /* What sets a temporary variable, what it is by those of the program, and on what its value depends. */
     std::map<tree, gimple *> made_by;
+    std::map<tree, tree> computed;
     std::map<tree, numbers> flows;
     /* A condition guards what stands before these labels. */
     struct guard {
@@ -164,26 +165,18 @@ class reducer_uses {
         return TREE_CODE(view) == SSA_NAME && SSA_NAME_VAR(view) ? SSA_NAME_VAR(view) : view;
     }
 
-    /* Whether both name the same, of which parts may have been computed twice. */
-    bool is_same(tree one, tree other) const {
-        if (one == other || !one || !other)
-            return one == other;
-        auto first = made_by.find(one), second = made_by.find(other);
-        if (first != made_by.end() && second != made_by.end()) {
-            gimple *made = first->second, *again = second->second;
-            bool is_like = is_gimple_assign(made) && is_gimple_assign(again) &&
-                           gimple_num_ops(made) == gimple_num_ops(again) &&
-                           gimple_assign_rhs_code(made) == gimple_assign_rhs_code(again);
-            for (unsigned number = 1; is_like && number < gimple_num_ops(made); number++)
-                is_like = is_same(gimple_op(made, number), gimple_op(again, number));
-            return is_like;
-        }
-        if (TREE_CODE(one) != TREE_CODE(other) || !EXPR_P(one))
-            return CONSTANT_CLASS_P(one) && operand_equal_p(one, other, 0);
-        for (int number = 0; number < TREE_OPERAND_LENGTH(one); number++)
-            if (!is_same(TREE_OPERAND(one, number), TREE_OPERAND(other, number)))
-                return false;
-        return true;
+    static tree put_computed(tree *at, int *walks_on, void *computed) {
+        auto &all = *static_cast<std::map<tree, tree> *>(computed);
+        if (auto found = all.find(*at); found != all.end())
+            *at = unshare_expr(found->second), *walks_on = 0;
+        return NULL_TREE;
+    }
+
+    /* What is named, by variables of the program alone. */
+    tree whole(tree named) {
+        named = unshare_expr(named);
+        walk_tree(&named, put_computed, &computed, nullptr);
+        return named;
     }
 
     numbers depends_on(gimple *statement) {
@@ -233,12 +226,13 @@ class reducer_uses {
         else if (TREE_CODE(view) == COMPONENT_REF && DECL_BIT_FIELD_TYPE(decl))
             error_at(location, "the reducer %s cannot be traced: it is a bit field", name.c_str());
         numbers same;
+        tree named = whole(view);
         std::copy_if(depends.begin(), depends.end(), std::inserter(same, same.end()),
-                     [&](size_t number) { return is_same(all[number].view, view); });
+                     [&](size_t number) { return operand_equal_p(all[number].named, named, 0); });
         tree note = reducer_types_note(decl, type, reducer_types_attribute(view));
         gbind *block = block_of("__spbags_value", view, note, location);
         gsi_insert_before(at, block, GSI_SAME_STMT);
-        all.push_back({view, as_a<gcall *>(gimple_seq_last_stmt(gimple_bind_body(block)))});
+        all.push_back({view, named, as_a<gcall *>(gimple_seq_last_stmt(gimple_bind_body(block)))});
         if (made == UPDATES || (made == SETS && !same.empty()))
             update(all.size() - 1);
         if (made != READS)
@@ -289,6 +283,7 @@ class reducer_uses {
         bool is_either = is_named(to, "iftmp");
         if (is_temporary(to) && !is_either) {
             made_by[to] = statement;
+            computed[to] = whole(gimple_assign_rhs_to_tree(statement));
             flows[to].clear();
         } else if (gimple_num_ops(statement) == 2 || gimple_assign_rhs_code(statement) == POINTER_PLUS_EXPR) {
             keep(at, from, to, depends);
@@ -347,6 +342,7 @@ class reducer_uses {
         if (result) {
             store(at, result, depends);
             made_by[result] = call;
+            computed.erase(result);
             flows[result].clear();
         }
         /* What it gives, and what it may set. */

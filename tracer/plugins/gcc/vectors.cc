@@ -42,6 +42,8 @@ static const whole_row whole_rows[] = {
     {"vbroadcastsd256", 0, 8, -1, false},
     {"movdir64b", 0, 64, -1, true},
     {"movdir64b", 1, 64, -1, false},
+    {"fnstenv", 0, 28, -1, true},
+    {"fldenv", 0, 28, -1, false},
     {"fxsave(64)?", 0, 512, -1, true},
     {"fxrstor(64)?", 0, 512, -1, false}};
 

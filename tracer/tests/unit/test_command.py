@@ -15,7 +15,7 @@ from compile.compiler import MARK
 from compile.library import Function, split_at
 from compile.link_inputs import Linked, Part, stubs
 from compile.options import Words, expanded, words_of
-from compile.symbols import CODE, UNDEFINED, WEAK_CODE
+from elf import CODE, UNDEFINED, WEAK_CODE
 
 
 class WordsTest(unittest.TestCase):

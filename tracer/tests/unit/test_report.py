@@ -10,7 +10,7 @@ import cases
 from cases import TracerTest
 from report import checker_answers, expressions, function_names, later_runs, stack_rows, text
 from report.checker_answers import Site
-from report.elf import Elf
+from elf import Elf
 from report.failure import Failure
 from report.pairs import Variable
 from report.program import Program
@@ -245,6 +245,7 @@ class NotesTest(TracerTest):
         "other 1 18 1 24 4099 -16 0 0",
         "held 1 4 8",
         "narrow 14",
+        "part 18",
         "left 2",
         "astray 7 a read of location 5",
     ]
@@ -266,7 +267,8 @@ class NotesTest(TracerTest):
             [(14, 2, 0x1C, 0, 0, 0x4088, -8, False), (18, 1, 0x24, 0x4099, -16, 0, 0, True)], noted.stretches
         )
         self.assertEqual(
-            (0x7F00, {14}, 2, (7, "a read of location 5")), (notes.thread, notes.narrow, notes.left, notes.astray)
+            (0x7F00, {14}, {18}, 2, (7, "a read of location 5")),
+            (notes.thread, notes.narrow, notes.part, notes.left, notes.astray),
         )
         self.assertEqual({0x4011, 0x4022, 0x4044, 0x4033, 0x4055, 0x4066, 0x4088, 0x4099}, set(notes.codes()))
 

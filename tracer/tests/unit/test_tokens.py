@@ -3,6 +3,7 @@
 import os
 import re
 import sys
+import tempfile
 import unittest
 
 sys.dont_write_bytecode = True
@@ -52,6 +53,16 @@ class TokensTest(unittest.TestCase):
             {"one": ("own.c:1", False), "system": ("/usr/include/x.h:1", True), "three": ("own.c:3", False)},
             {name: found[name] for name in ("one", "system", "three")},
         )
+
+    def test_columns(self) -> None:
+        """That of a keyword of Cilk is the one that the source has in its place; of a word that the line has twice none is
+        known. A tab goes to the next place behind a multiple of 8."""
+        with tempfile.NamedTemporaryFile("w", suffix=".c") as source:
+            source.write("x = cilk_spawn f();\n\tg(x, y, x);\n")
+            source.flush()
+            found = tokens_of(f'# 1 "{source.name}"\nx = _Cilk_spawn f();\n g(x, y, x);\n')
+            places = {token.text: token.place().removeprefix(source.name) for token in found}
+        self.assertEqual((":1:5", ":2:14", ":2"), (places["_Cilk_spawn"], places["y"], places["x"]))
 
     def test_lines(self) -> None:
         """A string may hold some."""

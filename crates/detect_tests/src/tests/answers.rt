@@ -76,7 +76,7 @@ pub fn answer_from<T: Threads + Wait + Clock + Sync + Abort, R: Source, G: Gate 
     assert!(rt; 1 <= shards && shards <= 64 && 1 <= capacity && capacity <= 65536);
     let run = run_from(rt, alloc, shards, capacity, limits, source, gate)?;
     for lane in &run.lanes {
-        assert_eq!(rt; lane.capacity(), capacity as usize);
+        assert!(rt; lane.capacity() == capacity as usize);
     }
     let text = text_of(alloc, &run.report)?;
     let taken = run.taken;
@@ -115,12 +115,12 @@ pub fn answer_of_part<T: Threads + Wait + Clock + Sync + Abort>(
 
 /// Asserts the text of the row of this name. The number is that of the shards, 0 for one thread, or the pieces' size.
 pub fn assert_text<R: Abort>(rt: &R, text: &[u8], wanted: &[u8], name: &str, by: usize) {
-    assert_eq!(rt; text, wanted, "{name} by {by}");
+    assert!(rt; text == wanted, "{name} by {by}");
 }
 
 /// Asserts the fault of the row, in the same way.
 pub fn assert_fault<R: Abort>(rt: &R, fault: Option<Fault>, wanted: Fault, name: &str, by: usize) {
-    assert_eq!(rt; fault, Some(wanted), "{name} by {by}");
+    assert!(rt; fault == Some(wanted), "{name} by {by}");
 }
 
 fn hashers(alloc: Global, count: u32) -> Result<Vec<Hasher>, NoMemory>

@@ -88,7 +88,7 @@ fn assert_answer<R: Abort>(
         Err(fault) => Err(*fault),
     };
     let Cut { text, place, .. } = cut;
-    assert_eq!(rt; found, wanted, "{text:?} at {place} by {shards:?}");
+    assert!(rt; found == wanted, "{text:?} at {place} by {shards:?}");
 }
 
 /// Asserts what one thread, one shard and three answer.

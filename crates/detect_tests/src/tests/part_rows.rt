@@ -84,7 +84,7 @@ fn assert_races<R: Abort>(
     part: Part,
     shards: u32,
 ) {
-    assert_eq!(rt; found.races(), wanted, "{name} in {part:?} by {shards}");
+    assert!(rt; found.races() == wanted, "{name} in {part:?} by {shards}");
 }
 
 // The part of the row has the races of the part's locations, and no other.
@@ -159,7 +159,7 @@ fn shards_of_a_part_take_their_shares(rt: HostRuntime) -> Result<(), Fail> {
     ] {
         let part = part_of(&rt, index, count);
         let taken = taken(&rt, rt.alloc(), 3, part, WRITE_WRITE)?;
-        assert_eq!(rt; taken.as_slice(), shares.as_slice(), "{part:?}");
+        assert!(rt; taken.as_slice() == shares.as_slice(), "{part:?}");
     }
     Ok(())
 }

@@ -65,7 +65,7 @@ fn two_shards_meet(rt: HostRuntime) -> Result<(), Fail> {
         let mut pieces = Pieces::of(WRITE_WRITE, 1);
         let text = answer_from(&rt, rt.alloc(), shards, 1, LIMITS, &mut pieces, &gate)?.text;
         assert!(rt; !gate.missed.load(Ordering::SeqCst), "{shards} shards");
-        assert_eq!(rt; text.as_slice(), REPORT);
+        assert!(rt; text.as_slice() == REPORT);
     }
     Ok(())
 }
@@ -92,7 +92,7 @@ fn two_shards_meet_at_a_full_lane(rt: HostRuntime) -> Result<(), Fail> {
     };
     let text = answer_from(&rt, rt.alloc(), 2, 4, limits, &mut pieces, &gate)?.text;
     assert!(rt; !gate.missed.load(Ordering::SeqCst));
-    assert_eq!(rt; text.as_slice(), b"races 0\n".as_slice());
+    assert!(rt; text.as_slice() == b"races 0\n".as_slice());
     Ok(())
 }
 
@@ -148,7 +148,7 @@ impl<'a> Source for Following<'a> {
 #[test]
 fn reader_follows_shard(rt: HostRuntime) -> Result<(), Fail> {
     let (first, second) = WRITE_WRITE.split_at(14);
-    assert_eq!(rt; first, b"trace 1\nspawn\n".as_slice());
+    assert!(rt; first == b"trace 1\nspawn\n".as_slice());
     for capacity in [1u32, 1024] {
         let gate = Noting {
             passed: AtomicBool::new(false),
@@ -161,7 +161,7 @@ fn reader_follows_shard(rt: HostRuntime) -> Result<(), Fail> {
         };
         let text = answer_from(&rt, rt.alloc(), 2, capacity, LIMITS, &mut reader, &gate)?.text;
         assert!(rt; !reader.missed, "capacity {capacity}");
-        assert_eq!(rt; text.as_slice(), REPORT);
+        assert!(rt; text.as_slice() == REPORT);
     }
     Ok(())
 }

@@ -63,7 +63,7 @@ fn judge<R: Print + Abort>(
 ) {
     let (status, out, err) = left;
     if status != 2 {
-        assert_eq!(rt; (status, out), wanted);
+        assert!(rt; (status, out) == wanted);
         assert!(rt; err.is_empty());
         return;
     }
@@ -72,7 +72,7 @@ fn judge<R: Print + Abort>(
         print_refused(rt, "thread");
         return;
     }
-    assert_eq!(rt; err, b"spbags: out of memory\n".as_slice());
+    assert!(rt; err == b"spbags: out of memory\n".as_slice());
     print_refused(rt, "memory");
 }
 

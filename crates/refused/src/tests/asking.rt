@@ -79,7 +79,7 @@ fn answered<R: Print + Abort, T>(rt: &R, answer: Result<T, Fault>) -> Option<T> 
     match answer {
         Ok(answer) => Some(answer),
         Err(fault) => {
-            assert_eq!(rt; fault, Fault::NoMemory);
+            assert!(rt; fault == Fault::NoMemory);
             print_refused(rt, "memory");
             None
         }
@@ -89,7 +89,7 @@ fn answered<R: Print + Abort, T>(rt: &R, answer: Result<T, Fault>) -> Option<T> 
 fn measure_row<R: Print + Abort>(rt: &R, alloc: Global, row: Row) {
     let answer = measure(alloc, LIMITS, &mut Counted::new(row.text));
     if let Some(measured) = answered(rt, answer) {
-        assert_eq!(rt; measured, row.measure);
+        assert!(rt; measured == row.measure);
     }
 }
 
@@ -101,9 +101,9 @@ fn measures(rt: HostRuntime) {
 }
 
 fn assert_pairs<R: Abort>(rt: &R, pairs: &[(Access, Access)], wanted: &[(u64, u64)]) {
-    assert_eq!(rt; pairs.len(), wanted.len());
+    assert!(rt; pairs.len() == wanted.len());
     for ((first, second), wanted) in pairs.iter().zip(wanted) {
-        assert_eq!(rt; (first.place, second.place), *wanted);
+        assert!(rt; (first.place, second.place) == *wanted);
     }
 }
 
@@ -135,7 +135,7 @@ fn confirm_report<R: Print + Abort>(
     };
     let answer = confirm(alloc, LIMITS, &mut Counted::new(text), &report);
     if let Some(confirmed) = answered(rt, answer) {
-        assert_eq!(rt; confirmed, wanted);
+        assert!(rt; confirmed == wanted);
     }
 }
 

@@ -110,9 +110,9 @@ fn detect_part_in_one(alloc: Global, part: Part, bytes: &[u8]) -> Result<Report,
 }
 
 fn assert_races<R: Abort>(rt: &R, report: &Report, races: &[Reported]) {
-    assert_eq!(rt; report.races().len(), races.len());
+    assert!(rt; report.races().len() == races.len());
     for (race, wanted) in report.races().iter().zip(races) {
-        assert_eq!(rt; reported(*race), *wanted);
+        assert!(rt; reported(*race) == *wanted);
     }
 }
 
@@ -162,7 +162,7 @@ fn judge_faulty<R: Print + Abort>(rt: &R, fault: Option<Fault>) {
     match fault {
         Some(Fault::NoMemory) => print_refused(rt, "memory"),
         Some(Fault::NoThread) => print_refused(rt, "thread"),
-        _ => assert_eq!(rt; fault, Some(wanted)),
+        _ => assert!(rt; fault == Some(wanted)),
     }
 }
 

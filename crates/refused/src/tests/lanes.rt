@@ -12,17 +12,17 @@ fn put_calls<R: Abort>(rt: &R, sender: &mut Sender<u32>)
     ensures { sender.new.lane ≡ sender.old.lane }
 {
     assert!(rt; !sender.marked());
-    assert_eq!(rt; sender.put(7), Ok(()));
+    assert!(rt; sender.put(7) == Ok(()));
     assert!(rt; sender.put_block(&[8, 9]));
-    assert_eq!(rt; sender.put(10), Ok(()));
-    assert_eq!(rt; sender.put(11), Ok(()));
+    assert!(rt; sender.put(10) == Ok(()));
+    assert!(rt; sender.put(11) == Ok(()));
     sender.flush();
 }
 
 fn take_calls<R: Abort>(rt: &R, taker: &mut Taker<u32>) {
     let mut items = [Item::Finish; 8];
-    assert_eq!(rt; taker.take_block(&mut items), 5);
-    assert_eq!(rt; taker.take(), None);
+    assert!(rt; taker.take_block(&mut items) == 5);
+    assert!(rt; taker.take() == None);
 }
 
 fn lane_calls<R: Abort>(rt: &R, alloc: Global, with: bool) -> Result<(), NoMemory> {
@@ -31,7 +31,7 @@ fn lane_calls<R: Abort>(rt: &R, alloc: Global, with: bool) -> Result<(), NoMemor
         put_calls(rt, &mut sender);
         assert!(rt; !sender.marked() && sender.room() == 1);
         taker.beside(&mut sender);
-        assert_eq!(rt; (taker.ready(), taker.take()), (5, Some(Item::One(7))));
+        assert!(rt; (taker.ready(), taker.take()) == (5, Some(Item::One(7))));
         assert!(rt; sender.mark());
         let mut end = sender.end();
         taker.settle(&mut end);
@@ -52,15 +52,15 @@ fn router_calls<R: Abort>(rt: &R, alloc: Global, with: bool) -> Result<(), NoMem
         };
         router.offer(placed);
         assert!(rt; router.pending());
-        assert_eq!(rt; router.step(), Progress::Moved);
-        assert_eq!(rt; router.step(), Progress::Idle);
+        assert!(rt; router.step() == Progress::Moved);
+        assert!(rt; router.step() == Progress::Idle);
         router.flush();
-        assert_eq!(rt; taker.take(), Some(Item::One(placed)));
+        assert!(rt; taker.take() == Some(Item::One(placed)));
         let next = Placed { place: 2, ..placed };
         assert!(rt; router.send(next).is_ok());
-        assert_eq!(rt; router.mark_all_step(), Progress::Moved);
-        assert_eq!(rt; router.mark_all_step(), Progress::Idle);
-        assert_eq!(rt; router.into_ends().len(), 1);
+        assert!(rt; router.mark_all_step() == Progress::Moved);
+        assert!(rt; router.mark_all_step() == Progress::Idle);
+        assert!(rt; router.into_ends().len() == 1);
     }
     Ok(())
 }

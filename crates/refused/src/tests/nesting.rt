@@ -32,7 +32,7 @@ fn enter_tried<R: Print + Abort>(rt: &R, bags: &mut Bags, is_called: bool) -> u3
             return tried;
         }
         print_refused(rt, if is_called { "call" } else { "spawn" });
-        assert_eq!(rt; numbers(bags), before);
+        assert!(rt; numbers(bags) == before);
     }
     assert!(rt; false);
     TRIES
@@ -46,7 +46,7 @@ pub fn ret<R: Abort>(rt: &R, bags: &mut Bags) {
 fn in_p<R: Abort>(rt: &R, bags: &Bags, procedure: u64) -> bool {
     assert!(rt; procedure < bags.count());
     let (answer, _) = bags.in_p_counted(procedure);
-    assert_eq!(rt; answer, bags.in_p(procedure));
+    assert!(rt; answer == bags.in_p(procedure));
     answer
 }
 
@@ -62,7 +62,7 @@ fn nest<R: Print + Abort>(rt: &R, alloc: Global, is_called: bool, with: bool) {
         if with {
             bags.sync();
             let wanted = (depth + 1, depth + 2, depth + 2, 3 * (depth + 2));
-            assert_eq!(rt; numbers(&bags), wanted);
+            assert!(rt; numbers(&bags) == wanted);
             assert!(rt; !in_p(rt, &bags, depth));
         }
     }
@@ -74,7 +74,7 @@ fn nest<R: Print + Abort>(rt: &R, alloc: Global, is_called: bool, with: bool) {
 fn return_all<R: Abort>(rt: &R, bags: &mut Bags, is_called: bool) {
     for _ in 0..100 {
         ret(rt, bags);
-        assert_eq!(rt; in_p(rt, bags, 100), !is_called);
+        assert!(rt; in_p(rt, bags, 100) == !is_called);
     }
 }
 
@@ -135,10 +135,10 @@ fn alternate<R: Print + Abort>(rt: &R, alloc: Global, called_first: bool) {
     }
     for child in 0..100u64 {
         let is_called = (child % 2 == 0) == called_first;
-        assert_eq!(rt; in_p(rt, &bags, child + 1), !is_called);
+        assert!(rt; in_p(rt, &bags, child + 1) == !is_called);
     }
     bags.sync();
-    assert_eq!(rt; numbers(&bags), (0, 101, 1, 3));
+    assert!(rt; numbers(&bags) == (0, 101, 1, 3));
     for procedure in 0..101u64 {
         assert!(rt; !in_p(rt, &bags, procedure));
     }

@@ -27,7 +27,7 @@ fn feed<R: Abort>(rt: &R) {
             count = placed.place;
         }
     }
-    assert_eq!(rt; count, 8);
+    assert!(rt; count == 8);
     assert!(rt; matches!(feed.next(), Ok(None)));
 }
 
@@ -35,7 +35,7 @@ fn read<R: Abort>(rt: &R) {
     let mut reader = Reader::new(9);
     assert!(rt; reader.step(TEXT).is_ok());
     assert!(rt; reader.end().is_ok());
-    assert_eq!(rt; decimal_of(b"77"), Some(77));
+    assert!(rt; decimal_of(b"77") == Some(77));
 }
 
 fn nest<R: Abort>(rt: &R) {
@@ -68,7 +68,7 @@ fn write<R: Abort>(rt: &R) {
 
 fn make<R: Abort>(rt: &R, alloc: Global) {
     let shadow = Shadow::with_hasher(alloc, Hasher::default());
-    assert_eq!(rt; (shadow.last_place(), shadow.least_count()), (0, 1));
+    assert!(rt; (shadow.last_place(), shadow.least_count()) == (0, 1));
     let _ = Collector::new(alloc);
     let _ = Plan::new(64, 65536, LIMITS);
 }

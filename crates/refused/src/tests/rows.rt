@@ -131,10 +131,10 @@ fn by_parts<R: Print + Abort>(rt: &R, alloc: Global, records: &[Record]) -> Opti
 fn assert_race<R: Abort>(rt: &R, report: &Report, wanted: Reported) {
     let mut races = 0u64;
     for race in report.races() {
-        assert_eq!(rt; reported(*race), wanted);
+        assert!(rt; reported(*race) == wanted);
         races = races.saturating_add(1);
     }
-    assert_eq!(rt; races, 1);
+    assert!(rt; races == 1);
 }
 
 #[test]
@@ -155,7 +155,7 @@ fn apply<R: Print + Abort>(rt: &R, shard: &mut Shard<Hasher>, placed: Placed) ->
             return race;
         }
         print_refused(rt, "apply");
-        assert_eq!(rt; shard.taken().saturating_add(1), placed.place);
+        assert!(rt; shard.taken().saturating_add(1) == placed.place);
     }
     assert!(rt; false);
     None
@@ -176,14 +176,14 @@ fn by_shard<R: Print + Abort>(
     for (index, what) in records.iter().enumerate() {
         let (place, what) = (index as u64 + 1, *what);
         if let Some(race) = apply(rt, &mut shard, Placed { place, what }) {
-            assert_eq!(rt; (found, race.second.place), (None, place));
+            assert!(rt; (found, race.second.place) == (None, place));
             found = Some(reported(race));
         }
         if with {
-            assert_eq!(rt; shard.taken(), place);
+            assert!(rt; shard.taken() == place);
         }
     }
-    assert_eq!(rt; found, Some(wanted));
+    assert!(rt; found == Some(wanted));
 }
 
 #[test]

@@ -24,7 +24,7 @@ fn try_touch<R: Print + Abort>(
     let touched = shadow.touch(bags, location, kind, place);
     if touched.is_err() {
         print_refused(rt, "touch");
-        assert_eq!(rt; (shadow.last_place(), shadow.least_count()), before);
+        assert!(rt; (shadow.last_place(), shadow.least_count()) == before);
     }
     touched
 }
@@ -65,7 +65,7 @@ fn write<R: Print + Abort>(
             }
             touched = Ok(touch(rt, shadow, bags, location, Kind::Write, place));
         }
-        assert_eq!(rt; touched, Ok(None));
+        assert!(rt; touched == Ok(None));
     }
     missed
 }
@@ -81,9 +81,9 @@ fn write_again<R: Print + Abort>(
         let (location, place) = (step * 1000, step + 2 + STEPS);
         let race = touch(rt, shadow, bags, location, Kind::Write, place);
         if missed == Some(step) {
-            assert_eq!(rt; race, None);
+            assert!(rt; race == None);
         } else {
-            assert_eq!(rt; race.map(reported), Some((location, step + 2, place)));
+            assert!(rt; race.map(reported) == Some((location, step + 2, place)));
         }
     }
 }

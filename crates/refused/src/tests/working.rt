@@ -27,7 +27,7 @@ fn fill<R: Abort>(rt: &R, mut sender: Sender<Placed>, records: &[Record]) {
     for (index, what) in records.iter().enumerate() {
         let (place, what) = (index as u64 + 1, *what);
         assert!(rt; !sender.marked());
-        assert_eq!(rt; sender.put(Placed { place, what }), Ok(()));
+        assert!(rt; sender.put(Placed { place, what }) == Ok(()));
     }
     assert!(rt; !sender.marked() && sender.mark());
 }
@@ -47,15 +47,15 @@ fn run<R: Print + Wait + Clock + Abort>(
     fill(rt, sender, records);
     let worked = work(rt, shard, taker, back, &Open);
     assert!(rt; worked.taker.ended());
-    assert_eq!(rt; worked.shard.taken(), records.len() as u64);
+    assert!(rt; worked.shard.taken() == records.len() as u64);
     let first = back_taker.take();
     if first == Some(Item::One(Back::NoMemory)) {
         print_refused(rt, "work");
     } else {
         assert!(rt; matches!(first, Some(Item::One(Back::Race(_)))));
     }
-    assert_eq!(rt; back_taker.take(), Some(Item::Finish));
-    assert_eq!(rt; back_taker.take(), None);
+    assert!(rt; back_taker.take() == Some(Item::Finish));
+    assert!(rt; back_taker.take() == None);
     Ok(())
 }
 

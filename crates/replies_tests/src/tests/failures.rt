@@ -1,6 +1,6 @@
 //! Readers that fail in each call in turn, with every kind of error, and writers that fail or take nothing.
-use super::devices::{ENDLESS, Full, Halting, KINDS, Room, Slow};
-use super::{Ran, assert_left, run_on, trace_of};
+use super::devices::{ENDLESS, Full, Halting, KINDS, Large, Room, Slow};
+use super::{Ran, assert_left, run_on};
 use replies::refuse;
 use std::alloc::{AllocError, Global};
 use std::io::ErrorKind;
@@ -20,6 +20,11 @@ const COMMANDS: [&str; 6] = [
     "measure -",
     "confirm - b",
 ];
+
+const WRITE_WRITE: &[u8] = b"trace 1\nspawn\nwrite 5\nreturn\nwrite 5\nreturn\n";
+
+const THREE_WRITES: &[u8] =
+    b"trace 1\nspawn\nwrite 3\nreturn\nspawn\nwrite 3\nreturn\nwrite 3\nreturn\n";
 
 const REPORT: &[u8] = b"races 1\nrace 5 write 2 write 4\n";
 
@@ -63,9 +68,8 @@ fn halt_trace<T: Threads + Wait + Clock + Sync + Abort>(
 // each kind has its turn.
 #[test]
 fn every_call_of_the_trace_fails(rt: HostRuntime) -> Result<(), Fail> {
-    let trace = trace_of(rt.alloc(), "spawn, write 5, return, write 5, return")?;
     for line in COMMANDS {
-        halt_trace(&rt, rt.alloc(), line, trace.as_slice())?;
+        halt_trace(&rt, rt.alloc(), line, WRITE_WRITE)?;
     }
     Ok(())
 }
@@ -135,11 +139,7 @@ fn assert_front<T: Threads + Wait + Clock + Sync + Abort>(
     answer: &[u8],
     room: Room,
 ) -> Result<(), AllocError> {
-    let trace = trace_of(
-        alloc,
-        "spawn, write 3, return, spawn, write 3, return, write 3, return",
-    )?;
-    let mut source = Counted::new(Slow::new(trace.as_slice(), 4096));
+    let mut source = Counted::new(Slow::new(THREE_WRITES, 4096));
     let mut report = Counted::new(Slow::new(b"races 1\nrace 4 write 5 write 7\n", 1));
     let ran = run_on(rt, alloc, line, &mut source, &mut report, room)?;
     let (front, _) = answer.split_at(room.bytes.min(answer.len()));
@@ -203,6 +203,35 @@ fn says_that_the_output_of_help_is_full(rt: HostRuntime) -> Result<(), Fail> {
     for (bytes, error) in [(3, Some(ErrorKind::StorageFull)), (3, None), (6, None)] {
         let (front, _) = b"a text".split_at(bytes);
         fill_with_help(&rt, rt.alloc(), &fault, front, Room { bytes, error });
+    }
+    Ok(())
+}
+
+#[test]
+fn says_that_memory_lacks(rt: HostRuntime) {
+    let mut out = Vec::new(rt.alloc());
+    let mut err = Vec::new(rt.alloc());
+    let status = refuse(
+        &WordsFault::NoMemory,
+        &mut Counted::new(&mut out),
+        &mut Counted::new(&mut err),
+    );
+    let ran = Ran { status, out, err };
+    assert_left(&rt, &ran, 2, b"", b"spbags: out of memory\n", "no memory");
+}
+
+// A report may have 67108864 bytes. These are no report's text, and that is said only where they are no more.
+#[test]
+fn refuses_a_large_report_first(rt: HostRuntime) -> Result<(), Fail> {
+    for (left, want) in [
+        (67108864, "spbags: report line 1: bad\n"),
+        (67108865, "spbags: report too large\n"),
+    ] {
+        let mut trace = Counted::new(Slow::new(b"x\n", 1));
+        let mut report = Counted::new(Large { left });
+        let line = "confirm - b";
+        let ran = run_on(&rt, rt.alloc(), line, &mut trace, &mut report, ENDLESS)?;
+        assert_left(&rt, &ran, 2, b"", want.as_bytes(), line);
     }
     Ok(())
 }

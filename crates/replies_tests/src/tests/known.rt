@@ -7,7 +7,7 @@ ghost use Rattle.trace.specs.Devices.{◌⇝◌};
 ghost use Rattle.trace.specs.Writers.{IsUntouched, Took};
 ghost use Rattle.replies.specs.Questions.{Answers};
 
-use super::{Ran, assert_left, trace_of, words_of};
+use super::{Ran, assert_answer, words_of};
 use replies::answer;
 use std::alloc::Global;
 use std::sync::Wait;
@@ -36,7 +36,7 @@ fn answer_bytes<T: Threads + Wait + Clock + Sync, W: Sink, E: Sink>(
     answer(rt, alloc, question, &mut trace, out, err)
 }
 
-const TRACE: &str = "spawn, write 3, return, spawn, write 3, return, write 3, return";
+const TRACE: &[u8] = b"trace 1\nspawn\nwrite 3\nreturn\nspawn\nwrite 3\nreturn\nwrite 3\nreturn\n";
 
 const ANSWERS: [(&str, &str, u8); 4] = [
     ("check -", "races 1\nrace 3 write 2 write 5\n", 1),
@@ -71,14 +71,13 @@ fn ran_of<T: Threads + Wait + Clock + Sync>(
 
 #[test]
 fn answers_of_known_bytes(rt: HostRuntime) -> Result<(), Fail> {
-    let trace = trace_of(rt.alloc(), TRACE)?;
     for (line, text, status) in ANSWERS {
         let words = words_of(rt.alloc(), line)?;
         let Ok(Asked::Question(question)) = read_words(rt.alloc(), words.as_slice()) else {
             return Err(Fail::from(line));
         };
-        let ran = ran_of(&rt, rt.alloc(), &question, trace.as_slice());
-        assert_left(&rt, &ran, status, text.as_bytes(), b"", line);
+        let ran = ran_of(&rt, rt.alloc(), &question, TRACE);
+        assert_answer(&rt, &ran, status, text.as_bytes(), line);
     }
     Ok(())
 }

@@ -98,9 +98,8 @@ fn expected(
     depth: usize,
 ) -> Result<Option<ReportedRace>, Fault> {
     let fault = first_fault(records, depth);
-    assert_eq!(rt;
-        fault.is_none(),
-        is_well_nested(records, depth),
+    assert!(rt;
+        fault.is_none() == is_well_nested(records, depth),
         "{records:?}"
     );
     if let Some(fault) = fault {
@@ -170,7 +169,7 @@ fn assert_answer(
     place: u64,
     records: &[Record],
 ) {
-    assert_eq!(rt; answer, wanted, "place {place} of {records:?}");
+    assert!(rt; answer == wanted, "place {place} of {records:?}");
 }
 
 /// Detects a list from its text.
@@ -186,7 +185,7 @@ fn check_list(
         Ok(report) => Ok(only_race(rt, &report)),
         Err(fault) => Err(fault),
     };
-    assert_eq!(rt; found, wanted, "{records:?} within depth {depth}");
+    assert!(rt; found == wanted, "{records:?} within depth {depth}");
 }
 
 /// Detects every list of a version, each after another in the same text.
@@ -227,7 +226,7 @@ fn check_tally(
     wanted: Tally,
 ) -> Result<(), Fail> {
     let tally = check_lists(rt, alloc, version, depth)?;
-    assert_eq!(rt; tally, wanted);
+    assert!(rt; tally == wanted);
     Ok(())
 }
 

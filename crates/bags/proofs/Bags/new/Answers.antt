@@ -3,5 +3,5 @@ use Rattle.bags.proofs.Bags.new.Goals as goal
 
 pub returns : goal.returns
 returns c =
-    (at_first c.in_ok-new-2.field-0 c.in_ok-new.field-0 c.new-3.result c.new.result c.in_ok-new-2.ensures c.in_ok-new.ensures
+    (at_first c.in_ok-new.field-0 c.new-2.result c.new-3.result c.new.result c.in_ok-new.ensures c.new-2.ensures
     c.new-3.ensures.first c.new-3.ensures.bag c.new.ensures.begins c.new.ensures.number c.new.ensures.called).1

@@ -7,6 +7,9 @@ use Rattle.bags.specs.Procedures.{Procedures, event}
 use Rattle.bags.proofs.Cuts.{begins_within, closed, executes, joined_held, moved_held, same_or_other, more_than_root, parent_before}
 use Rattle.bags.proofs.Bags.ret.Goals as goal
 
+pub close-executing-requires : goal.close-executing-requires
+close-executing-requires c = more_than_root c.self.inside.count c.self.inside.stretches c.self.inside.nesting c.args.self.now c.self.view_is c.requires
+
 pub new-kept-requires : goal.new-kept-requires
 new-kept-requires c =
     omega (arith, c.number.ensures, (executes c.self.inside.count c.self.inside.stretches c.self.inside.nesting c.close-executing.result (closed c.self.inside.count c.self.inside.stretches c.self.inside.nesting c.close-executing.new.self c.close-executing.result c.self.invariant c.close-executing.ensures)).1, c.self.invariant.most)

@@ -83,7 +83,7 @@ returns-then-is_err-clause-stuck c _ =
     record {
       within = omega (arith, among, ap length none.same);
       no_room = none.knows;
-      full = omega (arith, none.full, ap (λ (l : List ℕ). slice_index_or l c.lanes.lane 0) none.holds, ap (λ (l : List Items). length (put_on l c.lanes.lane)) none.same);
+      full = omega (arith, none.full, none.knows, ap (λ (l : List ℕ). slice_index_or l c.lanes.lane 0) none.holds, ap (λ (l : List Items). length (put_on l c.lanes.lane)) none.same);
     }
     (none.counts ∙ ap (λ (l : List ℕ). with_refusal l c.lanes.lane) i.none_refused)
     (λ w h.

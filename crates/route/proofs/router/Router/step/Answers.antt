@@ -42,7 +42,7 @@ returns-then-is_err-clause-blocked c =
         refused = none.counts;
         knew_of_none = none.knew;
         knows_of_none = none.knows;
-        full = none.full;
+        full = omega (arith, none.full, none.knew);
         unchanged = (unchanged _ _ none.on none.holds none.same refl refl refl);
       },
     )

@@ -1,6 +1,7 @@
 //! The worked rows of the questions, in pieces of some sizes and cut at every place.
 
-use super::answers::{answer, text_of};
+use super::super::text_of;
+use super::answers::answer;
 use super::parts::Parts;
 use std::alloc::Global;
 use std::process::Abort;

@@ -1,24 +1,16 @@
 //! What is answered about a trace, as texts. The callers know of the answers no more than that, or their proofs take
 //! long.
 
+use super::super::text_of;
 use super::parts::Parts;
 use audit::{confirm, explain, measure, pairs};
 use collect::{Report, read_report};
-use std::alloc::{AllocError, Global};
+use std::alloc::Global;
 use texts::{put_confirm, put_explained, put_measure, put_pairs, say_fault};
 use trace::{Counted, Fault, Feed, Limits};
 
 /// The source of a test.
 type Source<'a> = Counted<Parts<'a>>;
-
-/// The bytes of a column of a table, where `/` ends a line.
-pub fn text_of(alloc: Global, column: &str) -> Result<Vec<u8>, AllocError> {
-    let mut text = Vec::new(alloc);
-    for byte in column.as_bytes() {
-        text.push(if *byte == b'/' { b'\n' } else { *byte })?;
-    }
-    Ok(text)
-}
 
 // Whether one more record was read. What else is known of the feed isn't needed here.
 fn read_one(feed: &mut Feed<Source<'_>>) -> Result<bool, Fault> {

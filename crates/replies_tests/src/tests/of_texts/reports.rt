@@ -1,6 +1,6 @@
 //! The texts of reports, and the collector.
 
-use super::answers::text_of;
+use super::super::text_of;
 use collect::{
     Collector, MOST_BYTES, ReportFault, ReportRefusal, read_report, report_from, write_report,
 };
@@ -71,9 +71,9 @@ fn best_of_each_location(rt: HostRuntime) -> Result<(), Fail> {
         collector.take(Back::Race(race))?;
     }
     let report = collector.finish()?;
-    assert_eq!(rt; report.races().len(), 2);
-    assert_eq!(rt; Some(report.races()[0]), race(4, 1, 6));
-    assert_eq!(rt; Some(report.races()[1]), race(5, 3, 6));
+    assert!(rt; report.races().len() == 2);
+    assert!(rt; Some(report.races()[0]) == race(4, 1, 6));
+    assert!(rt; Some(report.races()[1]) == race(5, 3, 6));
     Ok(())
 }
 
@@ -95,7 +95,7 @@ fn merged(rt: HostRuntime) -> Result<(), Fail> {
     write_report(&merged, &mut Counted::new(&mut text))?;
     let wanted: &[u8] =
         b"races 3\nrace 4 write 1 read 6\nrace 5 write 3 read 7\nrace 8 read 3 write 4\n";
-    assert_eq!(rt; text.as_slice(), wanted);
+    assert!(rt; text.as_slice() == wanted);
     Ok(())
 }
 
@@ -104,7 +104,7 @@ fn shard_without_memory(rt: HostRuntime) -> Result<(), Fail> {
     let mut collector = Collector::new(rt.alloc());
     collector.take(Back::NoMemory)?;
     collector.take(Back::Race(race(4, 1, 6).ok_or("no race")?))?;
-    assert_eq!(rt; collector.finish().err(), Some(NoMemory));
+    assert!(rt; collector.finish().err() == Some(NoMemory));
     Ok(())
 }
 

@@ -33,11 +33,12 @@ fn write_write(rt: HostRuntime) -> Result<(), Fail> {
         Record::Write(5),
         Record::Return,
     ] {
-        assert_eq!(rt; detector.take(what), Ok(()));
+        assert!(rt; detector.take(what) == Ok(()));
     }
-    assert_eq!(rt; detector.take(Record::Sync), Err(Refusal::AfterEnd));
+    assert!(rt; detector.take(Record::Sync) == Err(Refusal::AfterEnd));
+    assert!(rt; detector.race_count() == 1);
     let report = detector.finish()?;
-    assert_eq!(rt; report.races(), [race].as_slice());
+    assert!(rt; report.races() == [race].as_slice());
     Ok(())
 }
 
@@ -53,7 +54,7 @@ fn write_sync_write(rt: HostRuntime) -> Result<(), Fail> {
         Record::Write(5),
         Record::Return,
     ] {
-        assert_eq!(rt; detector.take(what), Ok(()));
+        assert!(rt; detector.take(what) == Ok(()));
     }
     assert!(rt; detector.finish()?.races().is_empty());
     Ok(())

@@ -1,6 +1,0 @@
-//! Tests of `trace`, `collect`, `audit` and `texts`. They are in one crate, since a crate with tests is proved once
-//! more with them, and each crate of tests reads all that it stands on.
-#![tactic(auto)]
-
-#[cfg(test)]
-mod tests;

@@ -1,0 +1,246 @@
+#include "openmp/locals.h"
+
+#include "base/memory.h"
+#include "base/openmp.h"
+#include "openmp/children.h"
+#include "openmp/notes.h"
+#include "openmp/parts.h"
+#include "program/locations.h"
+
+/* A granule that a share has accessed: its usual number, or 0; which share; the code that accessed it, which bytes, and
+   how. */
+struct local {
+    uintptr_t address;
+    uint64_t number, share;
+    uintptr_t code;
+    struct granules_range bytes;
+    bool writes, by_task;
+};
+
+/* Of each granule of the stacks: the newest phase in which a share accessed it that is the only one of its kind, or that
+   left a task which did; whether a task did; where it stands in the list; and after which event it was noted once more,
+   with which number, and how. */
+struct place {
+    uint64_t phase;
+    bool has_task, was_written;
+    size_t at;
+    uint64_t event, number;
+};
+
+static struct {
+    struct local *list;
+    size_t count;
+    struct place *places;
+    uint64_t phases;
+} locals;
+
+static struct place *place_of(const uint32_t *mark) { return &locals.places[mark - marks_at(stacks_first)]; }
+
+static void reserve(void) {
+    if (locals.list)
+        return;
+    size_t granules = stacks_size >> granules_shift;
+    locals.list = memory_reserve(granules * sizeof *locals.list);
+    locals.places = memory_reserve(granules * sizeof *locals.places);
+}
+
+void locals_begin_thread(struct scope *thread) {
+    reserve();
+    thread->quick_end = stacks_running->quick_end;
+    thread->phase = ++locals.phases;
+    thread->phase_mark = marks_read;
+    scopes.events++;
+}
+
+void locals_end_thread(const struct scope *thread) { stacks_set_quick_end(thread->quick_end); }
+
+void locals_begin_share(bool is_one, uintptr_t stack_pointer) {
+    if (!doing.tracing)
+        return;
+    reserve();
+    struct scope *share = scopes.newest;
+    share->quick_end = stacks_running->quick_end;
+    share->own_first = stack_pointer;
+    share->own_end = scopes_thread()->stack_end;
+    if (share->quick_end == stacks_running->end)
+        stacks_running->own_end = share->own_end;
+    share->is_one = is_one;
+    share->last_number = steps_last_number;
+    share->locals = locals.count;
+    while (share->locals > 0 && locals.list[share->locals - 1].share == share->number)
+        share->locals--;
+    stacks_set_quick_end(stack_pointer);
+}
+
+/* ---- Accesses ---- */
+
+static bool has_place(const struct scope *scope, uintptr_t address) {
+    return address >= scope->own_first && address < scope->own_end;
+}
+
+static void add_bytes(struct local *local, uintptr_t granule) {
+    unsigned all = (1u << (granules_mask + 1)) - 1, bytes = all & ~granules_bytes_left_out(granule);
+    uintptr_t first = granule + (unsigned)__builtin_ctz(bytes), end = granule + 32 - (unsigned)__builtin_clz(bytes);
+    local->bytes.first = first < local->bytes.first ? first : local->bytes.first;
+    local->bytes.end = end > local->bytes.end ? end : local->bytes.end;
+}
+
+/* The thread accesses again what it has accessed in this phase, maybe in a share. */
+static void note_touched(const struct scope *thread, bool is_one, const struct place *place, uintptr_t code) {
+    bool was_in_share = place->phase == thread->phase;
+    if (is_one || was_in_share)
+        notes_keep(&notes.other_may, code);
+    if (was_in_share && place->has_task)
+        notes_keep(&notes.beside_task, code);
+}
+
+static bool is_in_list(const struct scope *share, uintptr_t address, size_t at) {
+    return at < locals.count && locals.list[at].address == address && locals.list[at].share == share->number;
+}
+
+/* The share accesses a granule for the first time, which has another number there. */
+static void begin_local(const struct scope *share, const struct scope *thread, uintptr_t address, uint32_t *mark,
+                        uintptr_t code) {
+    if (*mark != MARK_UNTOUCHED && thread->phase != 0)
+        note_touched(thread, share->is_one && *mark >= thread->phase_mark, place_of(mark), code);
+    if (is_in_list(share, address, place_of(mark)->at)) {
+        *mark = MARK_UNTOUCHED;
+        return;
+    }
+    place_of(mark)->at = locals.count;
+    locals.list[locals.count++] = (struct local){.address = address,
+                                                 .number = *mark == MARK_UNTOUCHED ? 0 : *marks_number(mark),
+                                                 .share = share->number,
+                                                 .code = code,
+                                                 .bytes = {UINTPTR_MAX, 0}};
+    *mark = MARK_UNTOUCHED;
+}
+
+static void note_in_share(const struct scope *share, const struct scope *thread, bool by_task, bool writes,
+                          uintptr_t address, uint32_t *mark, uintptr_t code) {
+    recent_begin();
+    if (*mark == MARK_UNTOUCHED || *marks_number(mark) <= share->last_number)
+        begin_local(share, thread, address, mark, code);
+    struct local *local = &locals.list[place_of(mark)->at];
+    if (writes && !local->writes)
+        local->code = code;
+    local->writes |= writes;
+    local->by_task |= by_task;
+    add_bytes(local, address);
+    recent_finish();
+}
+
+static const struct scope *thread_of(const struct scope *at) {
+    while (!scopes_is_thread(at))
+        at--;
+    return at;
+}
+
+void openmp_note_stack(bool writes, uintptr_t address, uint32_t *mark, uintptr_t code) {
+    const struct scope *at = scopes.newest;
+    bool by_task = false;
+    if (stacks_find(address) != stacks_running)
+        openmp_note_other(address, code);
+    while (at > scopes.first && !has_place(at, address)) {
+        by_task |= at->kind == SCOPE_TASK;
+        at--;
+    }
+    if (at->kind == SCOPE_SHARE)
+        note_in_share(at, thread_of(at), by_task, writes, address, mark, code);
+    else if (at > scopes.first && *mark != MARK_UNTOUCHED)
+        note_touched(at, false, place_of(mark), code);
+}
+
+/* ---- The end of a share ---- */
+
+/* What is known of the granule is what was known before the share. */
+static void take_back(const struct local *local) {
+    uint32_t *mark = marks_at(local->address);
+    if (locations_count_ends())
+        locations_end_at_hand(mark, 1);
+    *mark = local->number == 0 ? MARK_UNTOUCHED : MARK_TOUCHED;
+    if (local->number != 0)
+        *marks_number(mark) = local->number;
+}
+
+static void take_back_all(const struct scope *share) {
+    for (size_t at = share->locals; at < locals.count; at++)
+        if (locals.list[at].share == share->number)
+            take_back(&locals.list[at]);
+    if (steps_any_dies())
+        recent_leave_out_dying(0);
+}
+
+/* The same has been noted, and so it stands to all tasks and other threads. */
+static bool is_noted(const struct local *local, const struct place *place) {
+    return local->number != 0 && place->number == local->number && place->event == scopes.events &&
+           (place->was_written || !local->writes);
+}
+
+static void note_again(const struct local *local) {
+    uint32_t *mark = marks_at(local->address);
+    struct place *place = place_of(mark);
+    if (is_noted(local, place))
+        return;
+    uintptr_t end = local->address + granules_mask + 1;
+    if (local->bytes.first > local->address || local->bytes.end < end)
+        granules_partial = local->bytes;
+    locations_note_stack(local->writes, local->address, mark, granules_shift, local->code);
+    granules_partial.end = 0;
+    place->was_written = local->writes;
+    place->event = scopes.events;
+    place->number = *marks_number(mark);
+}
+
+/* Whether what it accessed there matters for what its thread does later: then that is no repeat. */
+static bool matters(const struct scope *share, const struct scope *thread, const struct local *local) {
+    uint32_t *mark = marks_at(local->address);
+    struct place *place = place_of(mark);
+    bool has_task = local->by_task && scopes_unsynced(share) > 0;
+    if (!share->is_one && !has_task)
+        return false;
+    place->has_task = has_task || (place->has_task && place->phase == thread->phase);
+    place->phase = thread->phase;
+    *mark = MARK_TOUCHED;
+    return true;
+}
+
+/* An ordered iteration stands in the next one, which has its accesses then. */
+static void hand_over(const struct scope *share, const struct scope *next) {
+    for (size_t at = share->locals; at < locals.count; at++)
+        if (locals.list[at].share == share->number)
+            locals.list[at].share = next->number;
+}
+
+/* Others of the list are of shares around. */
+static bool note_all_again(const struct scope *share, const struct scope *thread) {
+    size_t kept = share->locals;
+    bool any_matters = false;
+    for (size_t at = share->locals; at < locals.count; at++) {
+        const struct local *local = &locals.list[at];
+        if (local->share == share->number) {
+            note_again(local);
+            any_matters |= matters(share, thread, local);
+        } else {
+            place_of(marks_at(local->address))->at = kept;
+            locals.list[kept++] = *local;
+        }
+    }
+    locals.count = kept;
+    return any_matters;
+}
+
+uintptr_t locals_end_share(uintptr_t code) {
+    const struct scope share = *scopes.newest;
+    if (doing.tracing)
+        take_back_all(&share);
+    children_close(code);
+    if (!doing.tracing)
+        return share.own_first;
+    if (scopes.newest->kind == SCOPE_SHARE)
+        hand_over(&share, scopes.newest);
+    stacks_set_quick_end(stacks_running->end);
+    bool any_matters = note_all_again(&share, scopes_thread());
+    stacks_set_quick_end(any_matters ? share.own_first : share.quick_end);
+    return share.own_first;
+}
