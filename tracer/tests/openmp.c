@@ -426,6 +426,51 @@ static void across_loop(void) {
     }
 }
 
+/* Others reach a byte of a variable of the first thread, which has accessed these of its bytes in a loop. */
+union bytes {
+    int all;
+    char each[4];
+};
+
+static void first_only(union bytes *own, int i) { own->each[0] = (char)i; /* [first only] */ }
+
+static void by_turns(union bytes *own, int i) { own->each[i % 2] = 1; /* [by turns] */ }
+
+static void third_first(union bytes *own, int i) {
+    own->each[2] = (char)i;
+    own->each[0] = (char)i; /* [third first] */
+}
+
+static void then_all(union bytes *own, int i) {
+    own->each[0] = (char)i;
+    *(volatile int *)&own->all; /* [then all] */
+}
+
+static union bytes *bytes_of_master;
+
+static void reach_byte(void (*iteration)(union bytes *own, int i), int byte) {
+#pragma omp parallel num_threads(2)
+    {
+        union bytes own;
+#pragma omp master
+        bytes_of_master = &own;
+#pragma omp barrier
+#pragma omp for nowait
+        for (int i = 0; i < 8; i++)
+            iteration(&own, i);
+        if (bytes_of_master != &own)
+            bytes_of_master->each[byte]++; /* [byte of master] */
+#pragma omp barrier
+    }
+}
+
+static void same_byte(void) { reach_byte(first_only, 0); }
+static void next_byte(void) { reach_byte(first_only, 1); }
+static void byte_of_other_iteration(void) { reach_byte(by_turns, 1); }
+static void byte_behind_other(void) { reach_byte(third_first, 0); }
+static void byte_between(void) { reach_byte(third_first, 1); }
+static void byte_of_all(void) { reach_byte(then_all, 1); }
+
 /* The task is another thread's, or this one's but later. */
 static void task_of_single(void) {
 #pragma omp parallel num_threads(2)
@@ -755,6 +800,12 @@ int main(int count, char **words) {
                 {"task_first", task_first, true},
                 {"task_others", task_others, true},
                 {"across_loop", across_loop, true},
+                {"same_byte", same_byte, true},
+                {"next_byte", next_byte, true},
+                {"byte_of_other_iteration", byte_of_other_iteration, true},
+                {"byte_behind_other", byte_behind_other, true},
+                {"byte_between", byte_between, true},
+                {"byte_of_all", byte_of_all, true},
                 {"task_of_single", task_of_single, true},
                 {"reaches_own", reaches_own, true},
                 {"reaches_own_in_loop", reaches_own_in_loop, true},

@@ -6,13 +6,16 @@
 #include "base/common.h"
 
 #ifdef SPBAGS_OPENMP
+enum { openmp_is_here = true };
 /* Whether accesses are looked at beside, as those after an ordered region. They come here all. */
 extern bool openmp_watches;
 void openmp_watch_access(bool writes, uintptr_t address, size_t size, uintptr_t code);
 /* An access near what a thread has of its own, which may be another one's. */
 __attribute__((cold)) void openmp_note_other(uintptr_t address, uintptr_t code);
-/* An access of another stack, or above the running one's quick end. */
-__attribute__((cold)) void openmp_note_stack(bool writes, uintptr_t address, uint32_t *mark, uintptr_t code);
+/* An access of another stack, or above the running one's quick end; whether the strand has done the same before. Then
+   part of the granule was accessed. */
+__attribute__((cold)) bool openmp_note_stack(bool writes, uintptr_t address, uint32_t *mark, uintptr_t code);
+__attribute__((cold)) void openmp_note_part(uintptr_t granule);
 /* Whether a task or a thread may run beside what the program does now; for code that may have something in any
    register. */
 __attribute__((no_caller_saved_registers, target("general-regs-only"))) bool openmp_has_beside(void);
@@ -22,14 +25,16 @@ size_t openmp_room_for_members(size_t *own_size);
 void openmp_open_waited(int file);
 void openmp_tell_notes(void);
 #else
-enum { openmp_watches = false };
+enum { openmp_is_here = false, openmp_watches = false };
 static inline void openmp_watch_access(bool writes, uintptr_t address, size_t size, uintptr_t code) {
     (void)writes, (void)address, (void)size, (void)code;
 }
 static inline void openmp_note_other(uintptr_t address, uintptr_t code) { (void)address, (void)code; }
-static inline void openmp_note_stack(bool writes, uintptr_t address, uint32_t *mark, uintptr_t code) {
+static inline bool openmp_note_stack(bool writes, uintptr_t address, uint32_t *mark, uintptr_t code) {
     (void)writes, (void)address, (void)mark, (void)code;
+    return false;
 }
+static inline void openmp_note_part(uintptr_t granule) { (void)granule; }
 static inline bool openmp_has_beside(void) { return false; }
 static inline size_t openmp_room_for_members(size_t *own_size) {
     (void)own_size;

@@ -6,23 +6,26 @@
 #include "openmp/notes.h"
 #include "openmp/parts.h"
 #include "program/locations.h"
+#include "records/byte_granular.h"
 
-/* A granule that a share has accessed: its usual number, or 0; which share; the code that accessed it, which bytes, and
-   how. */
+/* A granule that a share has accessed: its usual number, or 0; which share; which of its bytes were read and written, a
+   bit for each, by which code; in which strands last; and whether by a task. */
 struct local {
     uintptr_t address;
     uint64_t number, share;
-    uintptr_t code;
-    struct granules_range bytes;
-    bool writes, by_task;
+    unsigned read, written;
+    uintptr_t codes[GRANULE_MOST_BYTES];
+    uint64_t read_in, written_in;
+    bool by_task;
 };
 
 /* Of each granule of the stacks: the newest phase in which a share accessed it that is the only one of its kind, or that
    left a task which did; whether a task did; where it stands in the list; and after which event it was noted once more,
-   with which number, and how. */
+   with which number, and which of its bytes as read and as written. */
 struct place {
     uint64_t phase;
-    bool has_task, was_written;
+    bool has_task;
+    unsigned read, written;
     size_t at;
     uint64_t event, number;
 };
@@ -78,11 +81,22 @@ static bool has_place(const struct scope *scope, uintptr_t address) {
     return address >= scope->own_first && address < scope->own_end;
 }
 
-static void add_bytes(struct local *local, uintptr_t granule) {
-    unsigned all = (1u << (granules_mask + 1)) - 1, bytes = all & ~granules_bytes_left_out(granule);
-    uintptr_t first = granule + (unsigned)__builtin_ctz(bytes), end = granule + 32 - (unsigned)__builtin_clz(bytes);
-    local->bytes.first = first < local->bytes.first ? first : local->bytes.first;
-    local->bytes.end = end > local->bytes.end ? end : local->bytes.end;
+static unsigned all_bytes(void) { return (1u << (granules_mask + 1)) - 1; }
+
+static void add_bytes(struct local *local, bool writes, unsigned bytes, uintptr_t code) {
+    unsigned fresh = bytes & ~(local->written | (writes ? 0 : local->read));
+    for (; fresh != 0; fresh &= fresh - 1)
+        local->codes[__builtin_ctz(fresh)] = code;
+    *(writes ? &local->written : &local->read) |= bytes;
+}
+
+/* Whether the strand has done so to the granule already. */
+static bool is_again(struct local *local, bool writes) {
+    const uint64_t strand = marks_strand_now();
+    if (local->written_in == strand || (!writes && local->read_in == strand))
+        return true;
+    *(writes ? &local->written_in : &local->read_in) = strand;
+    return false;
 }
 
 /* The thread accesses again what it has accessed in this phase, maybe in a share. */
@@ -104,30 +118,28 @@ static void begin_local(const struct scope *share, const struct scope *thread, u
     if (*mark != MARK_UNTOUCHED && thread->phase != 0)
         note_touched(thread, share->is_one && *mark >= thread->phase_mark, place_of(mark), code);
     if (is_in_list(share, address, place_of(mark)->at)) {
+        struct local *local = &locals.list[place_of(mark)->at];
+        local->read_in = local->written_in = 0;
         *mark = MARK_UNTOUCHED;
         return;
     }
     place_of(mark)->at = locals.count;
-    locals.list[locals.count++] = (struct local){.address = address,
-                                                 .number = *mark == MARK_UNTOUCHED ? 0 : *marks_number(mark),
-                                                 .share = share->number,
-                                                 .code = code,
-                                                 .bytes = {UINTPTR_MAX, 0}};
+    locals.list[locals.count++] = (struct local){
+        .address = address, .number = *mark == MARK_UNTOUCHED ? 0 : *marks_number(mark), .share = share->number};
     *mark = MARK_UNTOUCHED;
 }
 
-static void note_in_share(const struct scope *share, const struct scope *thread, bool by_task, bool writes,
+static bool note_in_share(const struct scope *share, const struct scope *thread, bool by_task, bool writes,
                           uintptr_t address, uint32_t *mark, uintptr_t code) {
     recent_begin();
     if (*mark == MARK_UNTOUCHED || *marks_number(mark) <= share->last_number)
         begin_local(share, thread, address, mark, code);
     struct local *local = &locals.list[place_of(mark)->at];
-    if (writes && !local->writes)
-        local->code = code;
-    local->writes |= writes;
     local->by_task |= by_task;
-    add_bytes(local, address);
+    add_bytes(local, writes, all_bytes() & ~granules_bytes_left_out(address), code);
+    bool repeats = is_again(local, writes);
     recent_finish();
+    return repeats;
 }
 
 static const struct scope *thread_of(const struct scope *at) {
@@ -136,19 +148,33 @@ static const struct scope *thread_of(const struct scope *at) {
     return at;
 }
 
-void openmp_note_stack(bool writes, uintptr_t address, uint32_t *mark, uintptr_t code) {
+/* What the address has its place in, of the scopes that run. */
+static const struct scope *scope_of(uintptr_t address, bool *by_task) {
     const struct scope *at = scopes.newest;
+    while (at > scopes.first && !has_place(at, address)) {
+        *by_task |= at->kind == SCOPE_TASK;
+        at--;
+    }
+    return at;
+}
+
+bool openmp_note_stack(bool writes, uintptr_t address, uint32_t *mark, uintptr_t code) {
     bool by_task = false;
     if (stacks_find(address) != stacks_running)
         openmp_note_other(address, code);
-    while (at > scopes.first && !has_place(at, address)) {
-        by_task |= at->kind == SCOPE_TASK;
-        at--;
-    }
+    const struct scope *at = scope_of(address, &by_task);
     if (at->kind == SCOPE_SHARE)
-        note_in_share(at, thread_of(at), by_task, writes, address, mark, code);
-    else if (at > scopes.first && *mark != MARK_UNTOUCHED)
+        return note_in_share(at, thread_of(at), by_task, writes, address, mark, code);
+    if (at > scopes.first && *mark != MARK_UNTOUCHED)
         note_touched(at, false, place_of(mark), code);
+    return false;
+}
+
+/* Other bytes of the granule may be accessed yet, so no access of it is a repeat. */
+void openmp_note_part(uintptr_t granule) {
+    bool by_task = false;
+    if (scope_of(granule, &by_task)->kind == SCOPE_SHARE)
+        *marks_at(granule) = MARK_TOUCHED;
 }
 
 /* ---- The end of a share ---- */
@@ -171,10 +197,46 @@ static void take_back_all(const struct scope *share) {
         recent_leave_out_dying(0);
 }
 
+static bool is_of_place(const struct local *local, const struct place *place) {
+    return local->number != 0 && place->number == local->number && place->event == scopes.events;
+}
+
 /* The same has been noted, and so it stands to all tasks and other threads. */
 static bool is_noted(const struct local *local, const struct place *place) {
-    return local->number != 0 && place->number == local->number && place->event == scopes.events &&
-           (place->was_written || !local->writes);
+    return is_of_place(local, place) && (local->written & ~place->written) == 0 &&
+           (local->read & ~(place->read | place->written)) == 0;
+}
+
+static void note_byte(const struct local *local, uint32_t *mark, unsigned byte) {
+    bool writes = (local->written >> byte & 1) != 0;
+    locations_note_stack(writes, local->address, mark, granules_shift, local->codes[byte]);
+}
+
+/* Those with this bit set. */
+static void note_bytes(const struct local *local, uint32_t *mark, unsigned bytes) {
+    for (; bytes != 0; bytes &= bytes - 1) {
+        const unsigned byte = (unsigned)__builtin_ctz(bytes);
+        granules_partial = (struct granules_range){local->address + byte, local->address + byte + 1};
+        note_byte(local, mark, byte);
+    }
+}
+
+/* As one access, or where its bytes are told apart as one of each, what was written first. */
+static void note_granule(const struct local *local, uint32_t *mark) {
+    const unsigned noted = local->written != 0 ? local->written : local->read;
+    const uint64_t location = locations_of_stack(local->address, mark);
+    *mark = MARK_TOUCHED;
+    if (byte_granular_has(location)) {
+        note_bytes(local, mark, local->written);
+        note_bytes(local, mark, local->read & ~local->written);
+    } else {
+        if (noted != all_bytes())
+            granules_partial = (struct granules_range){local->address, local->address + 1};
+        note_byte(local, mark, (unsigned)__builtin_ctz(noted));
+    }
+    if (doing.looking && noted != all_bytes())
+        look_note_part(location, noted);
+    granules_partial.end = 0;
 }
 
 static void note_again(const struct local *local) {
@@ -182,12 +244,10 @@ static void note_again(const struct local *local) {
     struct place *place = place_of(mark);
     if (is_noted(local, place))
         return;
-    uintptr_t end = local->address + granules_mask + 1;
-    if (local->bytes.first > local->address || local->bytes.end < end)
-        granules_partial = local->bytes;
-    locations_note_stack(local->writes, local->address, mark, granules_shift, local->code);
-    granules_partial.end = 0;
-    place->was_written = local->writes;
+    const bool adds = is_of_place(local, place);
+    note_granule(local, mark);
+    place->read = local->read | (adds ? place->read : 0);
+    place->written = local->written | (adds ? place->written : 0);
     place->event = scopes.events;
     place->number = *marks_number(mark);
 }

@@ -68,8 +68,8 @@ void locations_clear(uintptr_t address, size_t size) {
 
 void locations_note_stack(bool writes, uintptr_t address, uint32_t *mark, unsigned shift, uintptr_t code) {
     bool marks_write = writes;
-    if (!stacks_is_of_running(address))
-        openmp_note_stack(writes, address, mark, code);
+    if (!stacks_is_of_running(address) && openmp_note_stack(writes, address, mark, code))
+        return;
     if (__builtin_expect(views_any, 0)) {
         enum view_update update = views_update_of(address, shift, marks_is_repeat(false, *mark));
         if (update != VIEW_NO_UPDATE && marks_is_repeat(false, *mark))
@@ -141,8 +141,12 @@ uintptr_t locations_touch_block(bool writes, uintptr_t granule, uintptr_t end, u
 /* The bytes that the access at hand reaches of a granule, if it doesn't fill it. */
 static void note_part(uintptr_t granule) {
     const unsigned left_out = granules_bytes_left_out(granule), all = (1u << (granules_mask + 1)) - 1;
-    if (left_out != 0)
+    if (left_out == 0)
+        return;
+    if (doing.looking)
         look_note_part(location_of(granule), all & ~left_out);
+    if (stacks_have(granule) && !stacks_is_of_running(granule))
+        openmp_note_part(granule);
 }
 
 /* No memory of the program reaches further than its addresses do. */
@@ -163,7 +167,7 @@ void locations_touch(bool writes, uintptr_t address, size_t size, uintptr_t code
     uintptr_t granule = address & ~granules_mask;
     while (granule < address + size)
         granule = (stacks_have(granule) ? touch_stack : locations_touch_block)(writes, granule, address + size, code);
-    if (doing.looking && granules_partial.end != 0) {
+    if ((doing.looking || openmp_is_here) && granules_partial.end != 0) {
         note_part(address & ~granules_mask);
         note_part((address + size - 1) & ~granules_mask);
     }

@@ -27,6 +27,10 @@ static struct byte_granular *slot_of_granule(uint64_t location) {
     return &table[slot];
 }
 
+bool byte_granular_has(uint64_t location) {
+    return byte_granular_any && slot_of_granule(location)->location == location;
+}
+
 static uint64_t location_of_byte(const struct byte_granular *granule, size_t byte) {
     uint64_t around = granule->fresh[byte] != 0 ? granule->fresh[byte] : granule->location;
     return granules_first_byte + GRANULE_MOST_BYTES * around + byte;

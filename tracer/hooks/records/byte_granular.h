@@ -11,6 +11,8 @@
 extern bool byte_granular_any;
 
 void byte_granular_begin(int file);
+/* Whether the granule with this location is one of them. */
+bool byte_granular_has(uint64_t location);
 /* What puts the record of a byte. */
 typedef void byte_granular_put(bool writes, uint64_t location, uintptr_t address, uintptr_t code);
 /* Whether the granule with this location is byte-granular, and then the record of each of its bytes is put. */
