@@ -77,6 +77,8 @@ class LaterRuns:
         self.pairs: list[Pair] = []
         self.races = self.without_stacks = 0
         self.notes: list[str] = []
+        # Runs that saw what the first one couldn't see.
+        self.more: list[Run] = []
         self.has_dwarf = True
         # Why the newest run that looked took another path, or None; and whether it was unlike the one before in any
         # way.
@@ -105,6 +107,7 @@ class LaterRuns:
             more = None
         before = len(self.pairs)
         if more:
+            self.more.append(more.run)
             self.find_pairs(more)
         if len(self.pairs) > before:
             self.notes.append(

@@ -167,7 +167,21 @@ class Session:
             waits = [] if not run.waits or self.later_runs().find_behind(run) else run.waits
             self.runner.files = {}
         others = [] if not run.others or self.later_runs().find_by_others(run) else run.others
-        return self.report(run, notes, run.incomplete + waits + others)
+        return self.report(run, notes, run.incomplete + waits + others + self.incomplete_later(run))
+
+    def runs_that_saw_more(self) -> list[runs.Run]:
+        return self.later.more if self.later else []
+
+    def incomplete_later(self, run: runs.Run) -> list[str]:
+        """What only a run that saw more says; of what the first one says too it is known whether it still holds."""
+        known = run.incomplete + run.waits + run.others
+        every = dict.fromkeys(line for more in self.runs_that_saw_more() for line in more.incomplete)
+        return [line for line in every if line not in known]
+
+    def unseen(self, run: runs.Run) -> list[runs.Unseen]:
+        """Functions that nothing is known of, each once."""
+        every = [unseen for each in [run, *self.runs_that_saw_more()] for unseen in each.unseen]
+        return list({unseen.function: unseen for unseen in reversed(every)}.values())[::-1]
 
     def later_runs(self) -> LaterRuns:
         if not self.later:
@@ -229,7 +243,7 @@ class Session:
             without_stacks,
             notes + (later.notes + later.hints() if later else []),
             incomplete,
-            [unseen for unseen in run.unseen if not self.is_silenced(unseen.function)],
+            [one for one in self.unseen(run) if not self.is_silenced(one.function)],
             ignored.told() if ignored else [],
         )
 

@@ -405,6 +405,24 @@ static void master_others(void) { reach(MASTER, OTHERS); }
 static void task_first(void) { reach(TASK, FIRST); }
 static void task_others(void) { reach(TASK, OTHERS); }
 
+/* Only where another thread does it isn't all seen. */
+static void single_with_lanes(void) {
+#pragma omp parallel num_threads(2)
+    {
+        int local = 0;
+#pragma omp master
+        of_master = &local;
+#pragma omp barrier
+#pragma omp single nowait
+        if (++local > 0 && of_master != &local) {
+#pragma omp simd /* [lanes of single] */
+            for (int i = 0; i < 8; i++)
+                counts[i]++;
+        }
+        local++;
+    }
+}
+
 /* A share that accesses nothing of the kind stands between both. */
 static void across_loop(void) {
 #pragma omp parallel num_threads(2)
@@ -789,6 +807,7 @@ int main(int count, char **words) {
                 {"single_others", single_others, true},
                 {"single_before", single_before, true},
                 {"single_own", single_own, true},
+                {"single_with_lanes", single_with_lanes, true},
                 {"two_singles", two_singles, true},
                 {"section_first", section_first, true},
                 {"section_others", section_others, true},

@@ -149,6 +149,7 @@ ANSWERS = [
     ("single_others", 1, "", "in single", "beside construct", {}),
     ("single_before", 0, "", "", "", {}),
     ("single_own", 0, "", "", "", {}),
+    ("single_with_lanes", 3, f"{at('lanes of single')}: a loop with simd alone", "", "", {}),
     ("two_singles", 1, "", "in other single", "in single", {}),
     ("section_first", 1, "", "in section", "beside construct", {}),
     ("section_others", 1, "", "in section", "beside construct", {}),
