@@ -1,30 +1,36 @@
 -- What a run among its workers comes to.
-use Rattle.std.proofs.Common.{◌≡◌, ℕ, ◌<◌, List, length, map, vec_len, None, Result, Ok, Err, OnOk, inl, inr, sym, ap, subst, ◌∙◌, arith}
+use Rattle.std.proofs.Common.{◌≡◌, ℕ, ◌<◌, List, [], ◌∷◌, length, map, vec_len, None, Result, Ok, Err, OnOk, inl, inr, refl, suc, sym, ap, subst, ◌∙◌, arith}
+use Rattle.std.specs.List.{All, AllByRecursion}
 use Rattle.std.proofs.lemmas.List.{length-map}
+use Rattle.std.proofs.lemmas.List.Elements.{All-from_recursion}
 use Rattle.std.proofs.lemmas.Simd.{map-map}
 use Rattle.std.specs.declared.thread.PromisedHandle.{PromisedHandle}
 use Rattle.dag.specs.declared.records.Placed.{Placed}
 use Rattle.dag.specs.declared.part.Part.{Part}
 use Rattle.trace.specs.declared.faults.Fault.{Fault}
 use Rattle.trace.specs.declared.faults.Fault.TheVariants.{NoThread}
+use Rattle.dag.proofs.Lists.{all-front}
 use Rattle.dag.specs.Traces.{placed}
 use Rattle.dag.specs.Parts.{records_of}
 use Rattle.trace.specs.Devices.{Device, Change, ◌⇝◌}
 use Rattle.trace.specs.Endings.{EndsReading, IsWantOfMemory, IsWantOfMemoryOrThread}
 use Rattle.trace.proofs.Endings.{refused_for_want}
 use Rattle.lane.specs.Items.{IsBeginning}
-use Rattle.lane.specs.Lanes.{LaneId}
+use Rattle.lane.specs.declared.taker.Taker.{Taker}
+use Rattle.lane.specs.Lanes.{LaneId, lane_capacity}
 use Rattle.route.specs.Routers.{RouterState}
 use Rattle.route.specs.Routers.{lane_count, HasSent, IsOnLanes}
 use Rattle.shard.specs.declared.worker_loop.Worked.{Worked}
+use Rattle.detect.specs.declared.workers.Job.{Job}
 use Rattle.detect.specs.declared.workers.WorkOf.{WorkOf}
 use Rattle.detect.specs.declared.made.Made.{Made}
 use Rattle.detect.specs.declared.closing.Done.{Done}
 use Rattle.detect.specs.declared.made.Lists.{Lists}
 use Rattle.detect.specs.Rooms.{HasRoom}
 use Rattle.detect.specs.LanesBack.{HasBackMark, IsFurther}
-use Rattle.detect.specs.Workers.{job_lanes, handle_lanes, AllDid}
-use Rattle.detect.specs.Readiness.{IsReady}
+use Rattle.detect.specs.Workers.{to_shards, job_lanes, handle_lanes, AllDid}
+use Rattle.detect.specs.Readiness.{AreJobsFrom, IsReady}
+use Rattle.detect.specs.Closing.{taker_lanes}
 use Rattle.detect.specs.Finished.{IsFinished, IsClosed, IsDone}
 use Rattle.detect.specs.declared.gathering.Gathering.{Gathering}
 use Rattle.detect.specs.declared.reading_thread.ReadingThread.{ReadingThread}
@@ -35,7 +41,24 @@ use Rattle.detect.proofs.Sendings.{on_lanes_trans}
 use Rattle.detect.proofs.LanesBack.{further_trans}
 use Rattle.detect.proofs.RunEnds.{did_count, did_taker_lanes, did_given_lanes}
 
+takers_hold : (capacity : ℕ) (takers : List (Taker Placed)) → AllByRecursion (λ l. lane_capacity l ≡ capacity) (map (λ t. t.lane) takers) → AllByRecursion (λ t. t.capacity ≡ capacity) takers
+takers_hold capacity [] h = tt
+takers_hold capacity (t ∷ takers) h = (t.of_lane ∙ h.0, takers_hold capacity takers h.1)
+
 module _ {S H : Type 0} where
+  lanes_hold : (capacity index : ℕ) (jobs : List (Job S H)) → AreJobsFrom capacity index jobs → AllByRecursion (λ l. lane_capacity l ≡ capacity) (to_shards jobs)
+  lanes_hold capacity index [] h = tt
+  lanes_hold capacity index (job ∷ jobs) h = (sym job.taker.of_lane ∙ h.0.to_shard, lanes_hold capacity (suc index) jobs h.1)
+
+  -- takers of the first of the jobs' lanes hold as many items as these
+  pub run_capacity : (capacity : ℕ) (jobs : List (Job S H)) (lanes : List LaneId) (takers : List (Taker Placed)) → AreJobsFrom capacity 0 jobs → IsBeginning lanes (to_shards jobs)
+      → map (λ t. t.lane) takers ≡ lanes → All (λ t. t.capacity ≡ capacity) takers
+  run_capacity capacity jobs lanes takers from (rest, e) same =
+      let OfLane : LaneId → Type 0 = λ l. lane_capacity l ≡ capacity in
+      let P : List LaneId → Type 0 = AllByRecursion OfLane in
+      let held : P lanes = all-front OfLane lanes rest (subst P e (lanes_hold capacity 0 jobs from)) in
+      All-from_recursion (λ (t : Taker Placed). t.capacity ≡ capacity) takers (takers_hold capacity takers (subst P (sym same) held))
+
   pub finished : (n : ℕ) (made : Made S H) (done : Done S H) (router : RouterState) (hs : List (PromisedHandle (Worked S H) WorkOf)) (u : List Placed)
       → IsReady n made → map handle_lanes hs ≡ map job_lanes made.jobs.items → HasSent u router → ((v : List Placed) → HasSent v router → HasSent v done.reading.router)
       → done.reading.router.pending ≡ None → done.reading.router.marked ≡ lane_count done.reading.router → IsOnLanes made.reading.router done.reading.router → IsFurther made.reading.gathering done.reading.gathering
@@ -59,16 +82,22 @@ module _ {S H : Type 0} where
         gathered = further.gathers ready.gathered;
       }
 
+  -- the workers have the lanes of the first jobs
+  pub worker_lanes : (jobs : List (Job S H)) (hs : List (PromisedHandle (Worked S H) WorkOf)) (ws : List (Worked S H)) → IsBeginning (map handle_lanes hs) (map job_lanes jobs)
+      → AllDid (map handle_lanes hs) ws → IsBeginning (taker_lanes ws) (to_shards jobs)
+  worker_lanes jobs hs ws first did =
+      let to_shard : LaneId × LaneId → LaneId = λ l. l.0 in
+      front_same _ _ _ _ (did_taker_lanes (map handle_lanes hs) ws did) (sym (map-map to_shard job_lanes jobs)) (front_map to_shard _ _ first)
+
   -- the receipts may be compared
   pub closed : (n : ℕ) (made : Made S H) (done : Done S H) (hs : List (PromisedHandle (Worked S H) WorkOf)) → IsReady n made → IsBeginning (map handle_lanes hs) (map job_lanes made.jobs.items)
       → done.reading.router.marked ≡ lane_count done.reading.router → IsOnLanes made.reading.router done.reading.router → IsFurther made.reading.gathering done.reading.gathering
       → AllDid (map handle_lanes hs) done.workers.items → IsClosed done
   closed n made done hs ready first marked on further did =
-      let to_shard : LaneId × LaneId → LaneId = λ l. l.0 in
       let from_shard : LaneId × LaneId → LaneId = λ l. l.1 in
       record {
         marked = marked;
-        to_shards = front_same _ _ _ _ (did_taker_lanes (map handle_lanes hs) done.workers.items did) (on.lanes ∙ sym ready.to_shards_are ∙ sym (map-map to_shard job_lanes made.jobs.items)) (front_map to_shard _ _ first);
+        to_shards = front_same _ _ _ _ refl (on.lanes ∙ sym ready.to_shards_are) (worker_lanes made.jobs.items hs done.workers.items first did);
         from_shards = front_same _ _ _ _ (did_given_lanes (map handle_lanes hs) done.workers.items did) (further.lanes ∙ sym ready.from_shards_are ∙ sym (map-map from_shard job_lanes made.jobs.items)) (front_map from_shard _ _ first);
       }
 

@@ -1,5 +1,5 @@
 //! The end of a run: its receipts are compared, and it is answered.
-ghost use Rattle.std.specs.Prelude.{◌≡◌, ◌<◌, ◌≤◌, ℕ, OnOk, map, vec_len};
+ghost use Rattle.std.specs.Prelude.{◌≡◌, ◌<◌, ◌≤◌, ℕ, IfOk, OnOk, map, vec_len};
 ghost use Rattle.dag.specs.Bounds.{most_records};
 ghost use Rattle.dag.specs.declared.part.Part.{Part};
 ghost use Rattle.trace.specs.Devices.{Change};
@@ -46,6 +46,7 @@ pub(crate) fn close<S: BuildHasher + Drop>(done: Done<S>, lists: Lists) -> Resul
     requires closed { IsClosed done }
     // where a fault is the answer too
     ensures compared { IsCompared (vec_len done.workers) done }
+    ensures lanes { IfOk result (λ run. map (λ t. t.lane) run.lanes.items ≡ taker_lanes done.workers.items) }
     ensures answers { (part : Part) (n records depths : ℕ) (change : Change) → 1 ≤ n → records ≤ most_records
         → IsDone part n records depths change done
         → EndsReading IsWantOfMemoryOrThread records depths change (RunFindsPart part n) result }

@@ -1,8 +1,11 @@
 //! Detection with a thread for each shard.
-ghost use Rattle.std.specs.Prelude.{◌≡◌, Err, vec_len};
+ghost use Rattle.std.specs.Prelude.{◌≡◌, All, Err, IfOk, map, vec_len};
 ghost use Rattle.trace.specs.declared.faults.Fault.TheVariants.{NoThread};
 ghost use Rattle.trace.specs.Devices.{◌⇝◌};
 ghost use Rattle.trace.specs.Endings.{EndsReading, IsWantOfMemoryOrThread};
+ghost use Rattle.lane.specs.Items.{IsBeginning};
+ghost use Rattle.detect.specs.Closing.{taker_lanes};
+ghost use Rattle.detect.specs.Workers.{to_shards};
 ghost use Rattle.detect.specs.Readiness.{IsReady};
 ghost use Rattle.detect.specs.Finished.{IsClosed, IsDone};
 ghost use Rattle.detect.specs.RunReports.{RunAnswers, RunAnswersPart};
@@ -72,9 +75,10 @@ where
     // verdict on it and its report by the dag, and each shard took its share of it.
     // Otherwise no memory was left, no thread could start, or the fault is the first. If the source holds such a
     // trace and doesn't fail, it is one of the former two.
-    ensures { EndsReading IsWantOfMemoryOrThread plan.limits.records plan.limits.depth
+    ensures ends { EndsReading IsWantOfMemoryOrThread plan.limits.records plan.limits.depth
         (R.state source.old ⇝ R.state source.new)
         (RunAnswers plan.shards) result }
+    ensures capacity { IfOk result (λ run. All (λ lane. lane.capacity ≡ plan.capacity) run.lanes.items) }
 {
     detect_part(rt, alloc, plan, Part::whole(), source, gate, hashers)
 }
@@ -101,9 +105,10 @@ where
     requires { vec_len hashers ≡ plan.shards }
     // As `detect`, but that the report is what the part has of the verdict, and that each shard took its share of what
     // the part has of the trace.
-    ensures { EndsReading IsWantOfMemoryOrThread plan.limits.records plan.limits.depth
+    ensures ends { EndsReading IsWantOfMemoryOrThread plan.limits.records plan.limits.depth
         (R.state source.old ⇝ R.state source.new)
         (RunAnswersPart part plan.shards) result }
+    ensures capacity { IfOk result (λ run. All (λ lane. lane.capacity ≡ plan.capacity) run.lanes.items) }
 {
     let lists = make_lists(alloc, hashers.len())?;
     let made = make(alloc, plan.capacity, part, hashers)?;
@@ -115,6 +120,7 @@ where
             ensures done { IsDone made.reading.part (vec_len made.jobs) plan.limits.records plan.limits.depth
                 (R.state source.entry.now ⇝ R.state result.1.now) result.0 }
             ensures closed { IsClosed result.0 }
+            ensures lanes { IsBeginning (taker_lanes result.0.workers.items) (to_shards made.jobs.items) }
             ensures source { result.1.ghost_name ≡ source.entry.ghost_name }
         {
             let done = run_workers(rt, scope, plan.limits, &mut *source, gate, made);
@@ -152,6 +158,7 @@ where
     ensures done { IsDone made.reading.part (vec_len made.jobs) limits.records limits.depth
         (R.state source.old ⇝ R.state source.new) result }
     ensures closed { IsClosed result }
+    ensures lanes { IsBeginning (taker_lanes result.workers.items) (to_shards made.jobs.items) }
     ensures unread { result.outcome ≡ Err NoThread → source.new ≡ source.old }
 {
     let Made {

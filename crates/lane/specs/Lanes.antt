@@ -15,6 +15,10 @@ LaneId = (Ptr × Ptr) × (Names × Global)
 abbrev pub lane_of_ring : {T P : Type 0} → End T Global P → LaneId
 lane_of_ring end = ((end.words, end.slots), (end.names, end.heap))
 
+-- how many items this lane holds at most, which is among its ring's names
+abbrev pub lane_capacity : LaneId → ℕ
+lane_capacity lane = lane.1.0.0
+
 -- one more, in a counter of 64 bits
 abbrev pub one_more : ℕ → ℕ
 one_more n = (n + 1) % 2 ^ 64
@@ -24,6 +28,7 @@ pub record SenderState (T : Type 0) : Type 0 where
   pub lane : LaneId
   -- how many items the lane holds at most
   pub capacity : ℕ
+  pub of_lane : capacity ≡ lane_capacity lane
   -- what the taker is shown, the mark included
   pub shown : List (Item T)
   -- what is put and not shown yet
@@ -38,6 +43,7 @@ pub record TakerState (T : Type 0) : Type 0 where
   pub lane : LaneId
   -- how many items the lane holds at most
   pub capacity : ℕ
+  pub of_lane : capacity ≡ lane_capacity lane
   -- what was taken, the mark included
   pub taken : List (Item T)
   -- the items that the taker knows to wait

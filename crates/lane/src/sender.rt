@@ -48,6 +48,7 @@ impl<T> Model for Sender<T> {
     ghost view = { λ s. record {
       lane = lane_of_ring s.ring.end;
       capacity = producer_capacity s.ring;
+      of_lane = s.ring.writes.2;
       shown = sent s.ring;
       staged = s.staged.items;
       room = known_free s.ring - length s.staged.items;

@@ -28,6 +28,7 @@ impl<T> Model for Taker<T> {
     ghost view = { λ t. record {
       lane = lane_of_ring t.ring.end;
       capacity = consumer_capacity t.ring;
+      of_lane = t.ring.reads.2;
       taken = received t.ring;
       waiting = known_items t.ring;
     } };

@@ -63,7 +63,7 @@ pub struct Answer {
     pub taken: Vec<u64>,
 }
 
-/// The answer of a run from the source. It asserts the capacity of the lanes to the shards.
+/// The answer of a run from the source.
 pub fn answer_from<T: Threads + Wait + Clock + Sync + Abort, R: Source, G: Gate + Sync>(
     rt: &T,
     alloc: Global,
@@ -75,9 +75,6 @@ pub fn answer_from<T: Threads + Wait + Clock + Sync + Abort, R: Source, G: Gate 
 ) -> Result<Answer, Fault> {
     assert!(rt; 1 <= shards && shards <= 64 && 1 <= capacity && capacity <= 65536);
     let run = run_from(rt, alloc, shards, capacity, limits, source, gate)?;
-    for lane in &run.lanes {
-        assert!(rt; lane.capacity() == capacity as usize);
-    }
     let text = text_of(alloc, &run.report)?;
     let taken = run.taken;
     Ok(Answer { text, taken })

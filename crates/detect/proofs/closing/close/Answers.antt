@@ -1,4 +1,4 @@
-use Rattle.std.proofs.Common.{◌≡◌, ℕ, vec_len, List, inl, refl, sym, ap, subst, ◌∙◌, arith}
+use Rattle.std.proofs.Common.{◌≡◌, ℕ, vec_len, List, map, inl, refl, sym, ap, subst, ◌∙◌, arith}
 use Rattle.std.proofs.lemmas.Simd.{map-map}
 use Rattle.dag.specs.Accesses.{RaceAt}
 use Rattle.dag.specs.Traces.{placed}
@@ -52,6 +52,11 @@ returns-clause-answers g c = λ part n records depths change some most h.
     let P : List RaceAt → Type 0 = IsCollected held in
     subst P (sym c.into_run.ensures.report) (c.in_ok-report.ensures.ok held (subst (KeepsBest held) (sym settled.ensures.collector) holds))) in
     record { trace = ends.trace; read = ends.read; says = answers }
+
+pub returns-clause-lanes : goal.returns-clause-lanes
+returns-clause-lanes g c =
+    let workers = c.settle-outcome.result.workers.items in
+    ap (map (λ t. t.lane)) c.into_run.ensures.lanes ∙ map-map (λ t. t.lane) (λ w. w.taker) workers ∙ c.settle-outcome.ensures.same.to_shards
 
 pub into_run-requires : goal.into_run-requires
 into_run-requires g c =

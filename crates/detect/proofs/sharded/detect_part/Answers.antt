@@ -6,7 +6,7 @@ use Rattle.trace.proofs.Endings.{ends_refused, refused_for_want}
 use Rattle.detect.specs.Rooms.{HasRoom}
 use Rattle.detect.specs.RunFinds.{RunFindsPart}
 use Rattle.detect.proofs.Endings.{trace_of, refusal_of}
-use Rattle.detect.proofs.RunDone.{room_if}
+use Rattle.detect.proofs.RunDone.{run_capacity, room_if}
 use Rattle.detect.proofs.RunAnswers.{run_ends}
 use Rattle.serial.proofs.PartReports.{fit_part}
 use Rattle.detect.proofs.PartReports.{part_ends}
@@ -21,14 +21,14 @@ close-requires-clause-room g c =
 pub close-requires-clause-closed : goal.close-requires-clause-closed
 close-requires-clause-closed g c = c.scoped-done.ensures.1.1.0
 
-pub returns-in_err-lists : goal.returns-in_err-lists
-returns-in_err-lists g c = ends_refused _ _ _ _ _ _ _ c.from_residual.ensures.1 (refused_for_want _ _ _ _ _ (inl refl))
+pub returns-in_err-lists-clause-ends : goal.returns-in_err-lists-clause-ends
+returns-in_err-lists-clause-ends g c = ends_refused _ _ _ _ _ _ _ c.from_residual.ensures.1 (refused_for_want _ _ _ _ _ (inl refl))
 
-pub returns-in_err-made : goal.returns-in_err-made
-returns-in_err-made g c = ends_refused _ _ _ _ _ _ _ c.from_residual-in_err-made.ensures.1 (refused_for_want _ _ _ _ _ (inl refl))
+pub returns-in_err-made-clause-ends : goal.returns-in_err-made-clause-ends
+returns-in_err-made-clause-ends g c = ends_refused _ _ _ _ _ _ _ c.from_residual-in_err-made.ensures.1 (refused_for_want _ _ _ _ _ (inl refl))
 
-pub returns-in_err-found : goal.returns-in_err-found
-returns-in_err-found g c =
+pub returns-in_err-found-clause-ends : goal.returns-in_err-found-clause-ends
+returns-in_err-found-clause-ends g c =
     let jobs : vec_len c.in_ok-made.made.jobs ≡ c.args.plan.shards = c.in_ok-made.made.jobs.ok.0 ∙ c.in_ok-made.ensures.ready.jobs ∙ c.requires in
     let some : 1 ≤ vec_len c.in_ok-made.made.jobs = omega (arith, jobs, c.args.plan.shards_within.0) in
     let P : Part → Type 0 = λ p. EndsReading IsWantOfMemoryOrThread c.args.plan.limits.records c.args.plan.limits.depth (g.R.Source.state c.args.source.now ⇝ g.R.Source.state c.scoped-done.result.1.now) (RunFindsPart p (vec_len c.in_ok-made.made.jobs)) c.close.result in
@@ -45,10 +45,13 @@ at_locations_of-requires g c =
     let t = trace_of _ _ _ _ _ c.close.result (subst P c.in_ok-made.ensures.part (c.close.ensures.answers c.in_ok-made.made.reading.part _ _ _ _ some c.args.plan.limits.within c.scoped-done.ensures.1.0)) _ c.in_ok-found.was in
     fit_part c.args.part t.read.whole.version t.trace _ t.read.whole.fits t.says.races
 
-pub returns : goal.returns
-returns g c =
+pub returns-clause-ends : goal.returns-clause-ends
+returns-clause-ends g c =
     let jobs : vec_len c.in_ok-made.made.jobs ≡ c.args.plan.shards = c.in_ok-made.made.jobs.ok.0 ∙ c.in_ok-made.ensures.ready.jobs ∙ c.requires in
     let some : 1 ≤ vec_len c.in_ok-made.made.jobs = omega (arith, jobs, c.args.plan.shards_within.0) in
     let P : Part → Type 0 = λ p. EndsReading IsWantOfMemoryOrThread c.args.plan.limits.records c.args.plan.limits.depth (g.R.Source.state c.args.source.now ⇝ g.R.Source.state c.scoped-done.result.1.now) (RunFindsPart p (vec_len c.in_ok-made.made.jobs)) c.close.result in
     let t = trace_of _ _ _ _ _ c.close.result (subst P c.in_ok-made.ensures.part (c.close.ensures.answers c.in_ok-made.made.reading.part _ _ _ _ some c.args.plan.limits.within c.scoped-done.ensures.1.0)) _ c.in_ok-found.was in
     part_ends g.R.Source.state c.args.part _ _ _ _ _ _ _ c.in_ok-found.found c.at_locations_of.result jobs (search rules) t c.at_locations_of.ensures
+
+pub returns-clause-capacity : goal.returns-clause-capacity
+returns-clause-capacity g c = run_capacity c.args.plan.capacity c.in_ok-made.made.jobs.items _ _ c.in_ok-made.ensures.jobs c.scoped-done.ensures.1.1.1.0 c.in_ok-found.ensures.lanes

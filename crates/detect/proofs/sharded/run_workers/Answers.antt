@@ -4,7 +4,7 @@ use Rattle.detect.specs.Sent.{GoesOn}
 use Rattle.detect.proofs.Endings.{lacks_no_thread}
 use Rattle.detect.proofs.LanesBack.{further_trans}
 use Rattle.detect.proofs.Sendings.{goes_on_refl, goes_on_trans}
-use Rattle.detect.proofs.RunDone.{closed, done_refused, done_started}
+use Rattle.detect.proofs.RunDone.{worker_lanes, closed, done_refused, done_started}
 use Rattle.detect.proofs.sharded.run_workers.Goals.{in-Ok, in-Err}
 use Rattle.detect.proofs.sharded.run_workers.Goals as goal
 
@@ -37,6 +37,9 @@ returns-clause-closed g c =
       | in-Err w ↦ subst P (sym w.reading-is) (goes_on_refl c.args.made.reading)
     ]) c.mark_all.ensures.goes_on in
     closed _ c.args.made _ c.start_all.new.handles.items c.requires c.start_all.ensures.first_ones c.mark_all.ensures.marked on.lanes (further_trans _ _ _ on.further c.finish_lanes.ensures.further) c.join_all.ensures
+
+pub returns-clause-lanes : goal.returns-clause-lanes
+returns-clause-lanes g c = worker_lanes c.args.made.jobs.items c.start_all.new.handles.items _ c.start_all.ensures.first_ones c.join_all.ensures
 
 pub returns-clause-unread : goal.returns-clause-unread
 returns-clause-unread g c no_thread = elim c.match-start_all.branch [
