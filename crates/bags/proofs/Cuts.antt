@@ -206,6 +206,14 @@ child_below count ss g fs p =
 all_but_one : (nested ys : List Nested) (g : Nested) → nested ≡ ys ++ g ∷ [] → 1 < length nested → 0 < length ys
 all_but_one nested ys g is more = let len : length nested ≡ length (ys ++ g ∷ []) = ap length is in omega (arith, length-append ys (g ∷ []))
 
+-- how the bags are held doesn't depend on whether the executing procedure was called
+pub held_as : (count : ℕ) (ss : List Stretch) (ys : List Nested) (g : Nested) (is_called : Bool) → AreHeld count ss (ys ++ g ∷ [])
+    → AreHeld count ss (ys ++ (record { begins = g.begins; number = g.number; is_called = is_called }) ∷ [])
+held_as count ss ys g is_called held =
+    let same : Nested = record { begins = g.begins; number = g.number; is_called = is_called } in
+    let cut : AreCut count ss (g ∷ reverse ys) = subst (AreCut count ss) (reverse-last ys g) held.cut in
+    record { some = held.some; most = held.most; cut = subst (AreCut count ss) (sym (reverse-last ys same)) (cut.0, cut.1, cut.2, cut.3) }
+
 -- where the parent's last stretch is of the bag that takes in the child, it grows
 pub joined_held : (count : ℕ) (ss : List Stretch) (nested ys : List Nested) (g : Nested) (d : Stretch) → AreHeld count ss nested → nested ≡ ys ++ g ∷ [] → 1 < length nested
     → (get_or ss (g.begins - 1) d).is_parallel ≡ not g.is_called
