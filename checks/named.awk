@@ -181,7 +181,7 @@ function look_at_mention(wanted, crate,  last) {
     if (wanted ~ /^[a-zA-Z_.]+\/[a-zA-Z0-9_.\/-]*$/) {
         sub(/\/$/, "", wanted)
         look(wanted in is_path || folder "/" wanted in is_path, wanted, "there")
-    } else if (wanted ~ /^definition_$|^[a-z_]*_tests$|^[A-Z]$/ || wanted !~ /^[A-Za-z_][A-Za-z0-9_:-]*$/) {
+    } else if (wanted ~ /^definition_$|^test_$|^[A-Z]$/ || wanted !~ /^[A-Za-z_][A-Za-z0-9_:-]*$/) {
         return
     } else if (wanted ~ /::/) {
         last = method_of(wanted)

@@ -4,7 +4,7 @@
 FNR == 1 {
     split(FILENAME, parts, "/")
     crate = parts[2]
-    is_test = crate ~ /_tests$/ || crate == "refused"
+    is_test = crate ~ /^test_/
     holder = ""
     # No example goes on in the next file.
     tested[++tests] = SUBSEP

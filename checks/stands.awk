@@ -47,7 +47,7 @@ function type_of(line,  depth, i, c) {
     return line
 }
 
-/^\/\/! Tests of `/ && crate ~ /_tests$/ {
+/^\/\/! Tests of `/ && crate ~ /^test_/ {
     count = split($0, parts, "`")
     for (i = 2; i <= count; i += 2)
         print "tested", parts[i], crate
@@ -63,7 +63,7 @@ function type_of(line,  depth, i, c) {
 }
 
 # The files of definitions that this one takes names from, and those names.
-/^ *(ghost )?use Rattle\.[a-z]+\.specs\.[A-Z]/ {
+/^ *(ghost )?use Rattle\.[a-z_]+\.specs\.[A-Z]/ {
     line = $0
     sub(/^.*Rattle\./, "", line)
     split(line, parts, /[.]/)

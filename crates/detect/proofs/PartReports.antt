@@ -10,9 +10,9 @@ use Rattle.trace.specs.Endings.{OfTrace, EndsReading}
 use Rattle.dag.specs.Traces.{placed, IsWellNested}
 use Rattle.shadow.specs.Found.{verdict}
 use Rattle.collect.specs.Located.{located_at}
-use Rattle.serial.proofs.Detected.{report_of}
-use Rattle.serial.proofs.PartRecords.{records_of-whole, races_of-whole}
-use Rattle.serial.proofs.PartReports.{part_report}
+use Rattle.verdict.proofs.Reports.{report_of}
+use Rattle.detect_plain.proofs.PartRecords.{records_of-whole, races_of-whole}
+use Rattle.detect_plain.proofs.PartReports.{part_report}
 use Rattle.detect.specs.declared.sharded.Run.{Run}
 use Rattle.detect.specs.RunReports.{RunAnswers, RunAnswersPart, TookSharesOf}
 use Rattle.detect.specs.RunFinds.{RunFindsPart}

@@ -4,7 +4,7 @@ use Rattle.trace.specs.Feeding.{Feeding, HasFed}
 use Rattle.dag.specs.declared.records.Placed.{Placed}
 use Rattle.dag.specs.declared.records.Record.{Record}
 use Rattle.dag.specs.Traces.{placed}
-use Rattle.serial.proofs.Detected.{placed-next}
+use Rattle.verdict.proofs.Reports.{placed-next}
 use Rattle.dag.specs.declared.part.Part.{Part}
 use Rattle.dag.specs.Parts.{records_of}
 use Rattle.route.specs.Routers.{RouterState}

@@ -16,7 +16,7 @@ use Rattle.collect.specs.Collected.{Collection, KeepsBest, IsCollected, races_of
 use Rattle.collect.proofs.Sorted.{collected_is_sorted}
 use Rattle.detect.specs.Gathered.{all_given, AreAtHomeFrom, AreAtHome, Gathers}
 use Rattle.detect.proofs.Gathered.{on_lane, best_of_lane, other_location}
-use Rattle.serial.proofs.Detected.{apart}
+use Rattle.detect_plain.proofs.Detected.{apart}
 
 home-filter : (n k : ℕ) (rs : List RaceAt) → AllByRecursion (λ r. r.location % n ≡ k) (filter (of_shard k n) rs)
 home-filter n k [] = tt

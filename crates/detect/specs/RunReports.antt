@@ -8,7 +8,7 @@ use Rattle.dag.specs.Shares.{share}
 use Rattle.dag.specs.Parts.{records_of}
 use Rattle.lane.specs.Items.{with_mark}
 use Rattle.detect.specs.declared.sharded.Run.{Run}
-use Rattle.serial.specs.Reported.{IsReportOf, IsPartReportOf}
+use Rattle.verdict.specs.Reported.{IsReportOf, IsPartReportOf}
 
 -- of n shards each took its share of the records, each record once and in their order, and then the mark; its lane was
 -- compared with the receipt, and nothing waits there

@@ -9,6 +9,6 @@ mod reading_thread;
 mod sharded;
 mod workers;
 
+pub use detect_plain::{detect_plain, detect_plain_part};
 pub use plan::Plan;
-pub use serial::{detect_plain, detect_plain_part, laws};
 pub use sharded::{Run, detect, detect_part};

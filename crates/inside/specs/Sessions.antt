@@ -14,8 +14,8 @@ use Rattle.dag.specs.declared.records.Record.{Record}
 use Rattle.dag.specs.declared.records.Record.TheVariants.{Spawn, Call, Return, Sync, Read, Write}
 use Rattle.shadow.specs.Found.{found, by_location, verdict}
 use Rattle.collect.specs.ReportText.{rtext}
-use Rattle.serial.specs.Racy.{HasLocation}
-use Rattle.serial.specs.Reported.{IsReportOf}
+use Rattle.verdict.specs.Racy.{HasLocation}
+use Rattle.verdict.specs.Reported.{IsReportOf}
 use Rattle.online.specs.Accesses.{block_records}
 use Rattle.online.specs.Lives.{in_life, first_lives, lives_after, AreOfFirstLives, IsReportOfLives, HasRacyLife}
 use Rattle.online.specs.Lives.{IsRaceCount}

@@ -24,9 +24,9 @@ use Rattle.collect.proofs.Merging.{from_map, in_map}
 use Rattle.dag.proofs.Once.{In, In_from, Contains_from}
 use Rattle.shadow.proofs.Listed.{In-by_location, In-from_by_location}
 use Rattle.shadow.proofs.Headlines.{racy}
-use Rattle.serial.specs.Racy.{HasLocation}
+use Rattle.verdict.specs.Racy.{HasLocation}
 use Rattle.dag.specs.Traces.{placed, placed_from, IsWellNested}
-use Rattle.serial.proofs.Detected.{apart}
+use Rattle.detect_plain.proofs.Detected.{apart}
 use Rattle.online.specs.Lives.{named, first_lives, home, at_home, IsOfFirstLife, AreOfFirstLives, IsReportOfLives, HasRacyLife, IsRaceCount}
 use Rattle.online.specs.Online.{Online, HasTakenPlaced}
 

@@ -21,7 +21,7 @@ use Rattle.shadow.specs.Cells.{untouched}
 use Rattle.shadow.specs.Found.{State, state_after, after_record}
 use Rattle.shadow.proofs.FoundLaws.{state_after-push}
 use Rattle.collect.specs.Collected.{KeepsBest}
-use Rattle.serial.proofs.Detected.{placed-next}
+use Rattle.verdict.proofs.Reports.{placed-next}
 use Rattle.blocks.specs.Masks.{has, units_before}
 use Rattle.blocks.specs.Pages.{location_of}
 use Rattle.blocks.specs.Blocks.{block_of, first_of}

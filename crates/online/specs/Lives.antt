@@ -11,7 +11,7 @@ use Rattle.shadow.specs.Found.{found}
 use Rattle.collect.specs.Collected.{race_on, best}
 use Rattle.collect.specs.Reports.{IsReportList}
 use Rattle.blocks.specs.Blocks.{is_unit}
-use Rattle.serial.specs.Racy.{HasLocation}
+use Rattle.verdict.specs.Racy.{HasLocation}
 
 -- A life of a location is a location of its own in the records: life k of location l has the name l + 2^64 * k.
 abbrev pub named : ℕ → ℕ → ℕ

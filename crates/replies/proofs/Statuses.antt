@@ -15,7 +15,7 @@ use Rattle.audit.specs.declared.answers.Explained.{Explained}
 use Rattle.audit.specs.Pairs.{IsPair, ArePairs}
 use Rattle.audit.specs.Explanations.{Explains}
 use Rattle.collect.specs.ReportText.{rtext}
-use Rattle.serial.specs.Racy.{HasLocation}
+use Rattle.verdict.specs.Racy.{HasLocation}
 use Rattle.detect.specs.declared.sharded.Run.{Run}
 use Rattle.detect.specs.RunReports.{RunAnswers, RunAnswersPart}
 use Rattle.detect.proofs.PartReports.{whole_answers}

@@ -8,7 +8,7 @@ use Rattle.trace.specs.Endings.{IsWantOfMemory, IsWantOfMemoryOrThread}
 use Rattle.dag.specs.Accesses.{RaceAt}
 use Rattle.collect.specs.ReportText.{rtext}
 use Rattle.dag.specs.Races.{HasRace}
-use Rattle.serial.specs.Reported.{IsReportOf, IsPartReportOf}
+use Rattle.verdict.specs.Reported.{IsReportOf, IsPartReportOf}
 use Rattle.audit.specs.declared.answers.Measure.{Measure}
 use Rattle.audit.specs.declared.answers.Explained.{Explained}
 use Rattle.audit.specs.declared.answers.Confirm.{Confirm}

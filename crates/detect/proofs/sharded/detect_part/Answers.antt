@@ -8,7 +8,7 @@ use Rattle.detect.specs.RunFinds.{RunFindsPart}
 use Rattle.detect.proofs.Endings.{trace_of, refusal_of}
 use Rattle.detect.proofs.RunDone.{run_capacity, room_if}
 use Rattle.detect.proofs.RunAnswers.{run_ends}
-use Rattle.serial.proofs.PartReports.{fit_part}
+use Rattle.detect_plain.proofs.PartReports.{fit_part}
 use Rattle.detect.proofs.PartReports.{part_ends}
 use Rattle.detect.proofs.sharded.detect_part.Goals as goal
 

@@ -3,7 +3,7 @@ use Rattle.std.proofs.lemmas.Result.{IfOk-weaker}
 use Rattle.dag.specs.Traces.{placed}
 use Rattle.online.specs.Lives.{first_lives}
 use Rattle.online.specs.Online.{HasTakenPlaced, IsAfter}
-use Rattle.serial.proofs.Detected.{report_of}
+use Rattle.verdict.proofs.Reports.{report_of}
 use Rattle.online.proofs.Reported.{reported_lives, reported_first, reported_once, lives_racy}
 use Rattle.online.proofs.detector.Detector.finish.Goals as goal
 

@@ -1,0 +1,14 @@
+use Rattle.std.proofs.Common.{sym, subst}
+use Rattle.std.proofs.lemmas.Result.{IfOk-weaker}
+use Rattle.detect_plain.specs.Detected.{HasFollowed, HasSeenTrace}
+use Rattle.verdict.proofs.Reports.{report_of}
+use Rattle.detect_plain.proofs.Detected.{reported}
+use Rattle.detect_plain.proofs.detector.Detector.finish.Goals as goal
+
+pub returns-clause-races : goal.returns-clause-races
+returns-clause-races g c = IfOk-weaker c.finish.result _ _
+    (λ rs collected u h. reported u _ _ _ rs (subst (HasFollowed u) (sym c.self.view_is) h) collected) c.finish.ensures.ok
+
+pub returns-clause-report : goal.returns-clause-report
+returns-clause-report g c = IfOk-weaker c.finish.result _ _
+    (λ rs collected u records depths h nested. report_of u rs nested (reported _ _ _ _ rs (subst (HasSeenTrace u) (sym c.self.view_is) h).detected collected)) c.finish.ensures.ok

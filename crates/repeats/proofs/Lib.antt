@@ -1,7 +1,0 @@
-mod Structure
-mod Lists
-mod Strands
-mod Nested
-mod Racy
-mod Needless
-mod Reordered

@@ -1,4 +1,0 @@
-//! A trace may leave out accesses that repeat earlier ones of their strand.
-#![tactic(auto)]
-
-pub mod laws;

@@ -1,5 +1,0 @@
-use Rattle.shadow.proofs.Parted.{found-part}
-use Rattle.serial.proofs.laws.parts.Goals as goal
-
-pub returns : goal.returns
-returns c part u = found-part part u

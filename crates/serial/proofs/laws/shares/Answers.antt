@@ -1,5 +1,0 @@
-use Rattle.shadow.proofs.Sharing.{found-share}
-use Rattle.serial.proofs.laws.shares.Goals as goal
-
-pub returns : goal.returns
-returns c k n u = found-share k n u

@@ -1,3 +1,0 @@
-pub mod Racy
-pub mod Reported
-pub mod Detected

@@ -1,0 +1,4 @@
+pub mod Racy
+pub mod Reported
+pub mod Repeats
+pub mod Strands
