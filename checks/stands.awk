@@ -63,7 +63,7 @@ function type_of(line,  depth, i, c) {
 }
 
 # The files of definitions that this one takes names from, and those names.
-/^ *(ghost )?use Rattle\.[a-z_]+\.specs\.[A-Z]/ {
+/^ *(ghost |pub )?use Rattle\.[a-z_]+\.specs\.[A-Z]/ {
     line = $0
     sub(/^.*Rattle\./, "", line)
     split(line, parts, /[.]/)

@@ -1,41 +1,10 @@
 -- The entries of a report, one record after another.
-use Rattle.std.proofs.Common.{◌≡◌, ◌≢◌, ℕ, zero, suc, ◌<◌, ◌≤◌, ◌&&◌, eqb, true, false, List, [], ◌∷◌, ◌++◌, length, map, slice_get, slice_set, get_or, nat_lt, Some, ◌⊎◌, inl, inr, refl, sym, ◌∙◌, subst, ap, arith, append_assoc, length-append, Result, Ok, Err, OnOk}
-use Rattle.std.specs.List.{AllByRecursion}
-use Rattle.std.specs.List.Sorted.{IsPartitionedBy, IsPartitionPoint}
+use Rattle.audit.proofs.Common.{◌≡◌, ◌≢◌, ℕ, zero, suc, ◌<◌, ◌≤◌, ◌&&◌, eqb, true, false, List, [], ◌∷◌, ◌++◌, length, map, slice_get, slice_set, get_or, nat_lt, Some, ◌⊎◌, inl, inr, refl, sym, ◌∙◌, subst, ap, arith, append_assoc, length-append, Result, Ok, Err, OnOk, AllByRecursion, IsPartitionedBy, IsPartitionPoint, cases_lt, cases_eq, and_parts, eqb-true, eq-eqb, ltb-true, ltb-false, append-nil, IsPartitionedBy-ltb, slice_get_within, slice_get-get_or, get_or_from_slice_get, slice_get-map, Record, Kind, Read, Write, Access, Placed, RaceAt, IsRaceShape, at, depth, IsPlace, IsWellNested, IsParallel, access, IsAccess, IsAccessPlace, access-place, IsAccessPlace-at, kind_once, IsReportList, IsEntry, locations, Confirm, Yes, No, Meetings, Entry, Standing, Missing, Begun, Confirmed, Confirming, ComesAfter, WhateverComes, HasMet, DecidesParallel, Moves, StatesRace, Confirms, entry_race, entry_races, entry_of, AreAscending, HasBegun, HasStanding, AllStand, SeesEntries, AnswersBy, HasConfirmed}
 use denote.Enum.Bare.{sameb}
-use Rattle.std.proofs.lemmas.Bool.{cases_lt, cases_eq, and_parts, eqb-true, eq-eqb, ltb-true, ltb-false}
 use Rattle.dag.specs.contracts.records.Kind.{the_type}
-use Rattle.std.proofs.lemmas.List.{append-nil}
-use Rattle.std.proofs.lemmas.List.Sorted.{IsPartitionedBy-ltb}
 use Rattle.std.proofs.lemmas.List.Kept.{AllPairs-from_increasing}
 use Rattle.std.specs.Option.{option_map}
-use Rattle.std.proofs.lemmas.Option.{slice_get_within, slice_get-get_or, get_or_from_slice_get, slice_get-map}
-use Rattle.dag.specs.declared.records.Record.{Record}
 use Rattle.dag.specs.declared.records.Record.TheVariants as records
-use Rattle.dag.specs.declared.records.Kind.{Kind}
-use Rattle.dag.specs.declared.records.Kind.TheVariants.{Read, Write}
-use Rattle.dag.specs.declared.records.Access.{Access}
-use Rattle.dag.specs.declared.records.Placed.{Placed}
-use Rattle.dag.specs.Accesses.{RaceAt, IsRaceShape}
-use Rattle.dag.specs.Traces.{at, depth, IsPlace, IsWellNested}
-use Rattle.dag.specs.Dag.{IsParallel}
-use Rattle.dag.specs.Races.{access, IsAccess, IsAccessPlace}
-use Rattle.dag.proofs.Paths.{access-place}
-use Rattle.dag.proofs.Readers.{IsAccessPlace-at}
-use Rattle.dag.proofs.Once.{kind_once}
-use Rattle.collect.specs.Reports.{IsReportList, IsEntry, locations}
-use Rattle.audit.specs.declared.answers.Confirm.{Confirm}
-use Rattle.audit.specs.declared.answers.Confirm.TheVariants.{Yes, No}
-use Rattle.audit.specs.declared.meetings.Meetings.{Meetings}
-use Rattle.audit.specs.declared.confirms.Entry.{Entry}
-use Rattle.audit.specs.declared.confirms.Standing.{Standing}
-use Rattle.audit.specs.declared.confirms.Standing.TheVariants.{Missing, Begun, Confirmed}
-use Rattle.audit.specs.declared.confirms.Confirming.{Confirming}
-use Rattle.trace.specs.Watching.{ComesAfter}
-use Rattle.audit.specs.Following.{WhateverComes}
-use Rattle.audit.specs.Meetings.{HasMet, DecidesParallel, Moves}
-use Rattle.audit.specs.Confirms.{StatesRace, Confirms}
-use Rattle.audit.specs.Entries.{entry_race, entry_races, entry_of, AreAscending, HasBegun, HasStanding, AllStand, SeesEntries, AnswersBy, HasConfirmed}
 use Rattle.audit.proofs.ListLemmas.{record_there}
 use Rattle.audit.proofs.MeetingLemmas.{met_next}
 use Rattle.audit.proofs.PairLemmas.{race_by}

@@ -1,41 +1,13 @@
 -- The race that is reported of a location and why it is one, one record after another.
-use Rattle.std.proofs.Common.{◌≡◌, ◌≢◌, ℕ, suc, ◌≤◌, ◌↔◌, Bool, true, false, List, [], ◌∷◌, ◌++◌, length, drop, Option, Some, None, MatchOption, is_some, IfSome, IfNone, inl, inr, refl, sym, ◌∙◌, subst, ap, arith, append_assoc, length-append, Result, Ok, Err, OnOk}
-use Rattle.std.proofs.lemmas.Bool.{cases_eq, cases_order}
-use Rattle.std.proofs.lemmas.List.{append-nil}
-use Rattle.dag.specs.declared.records.Record.{Record}
+use Rattle.audit.proofs.Common.{◌≡◌, ◌≢◌, ℕ, suc, ◌≤◌, ◌↔◌, Bool, true, false, List, [], ◌∷◌, ◌++◌, length, drop, Option, Some, None, MatchOption, is_some, IfSome, IfNone, inl, inr, refl, sym, ◌∙◌, subst, ap, arith, append_assoc, length-append, Result, Ok, Err, OnOk, cases_eq, cases_order, append-nil, Record, Kind, Read, Write, Access, Placed, writes, IsRaceShape, at, depth, IsWellNested, IsParallel, JoinsAt, level, Holds, IsMeeting, access, IsAccess, IsRead, IsWrite, IsAccessPlace, IsRace, IsReported, IsLastWrite, IsKeptReader, nothing_yet, no_read, first_read, replaces, stays, ComesAfter, IsPlace-at, access-place, leads_or_parallel, parallel-block, IsAccessPlace-at, read_or_write, kept_reads, NoneBefore, NoWrite, NoRead, last_write_parallel, reported_by_write, reported_by_reader, no_race_at_read, no_race_at_write, no_read_parallel, Opener, Explained, Meetings, Trail, Explaining, WhateverComes, HasMet, DecidesParallel, Moves, AreOpeners, WaitsAt, IsNextWait, AreJoined, IsExplained, Explains, IsTrail, Follows, KeepsWrite, KeepsReader, HasSought, IsUnjoined, reported_race, HasFoundRace, Stands, DecidesNow, IsRival, Joins, NextJoined, ReportsIt, Keeps, Sees, Seeks, HasExplained, explanation, read_no_write}
 use Rattle.dag.specs.declared.records.Record.TheVariants as records
-use Rattle.dag.specs.declared.records.Kind.{Kind}
-use Rattle.dag.specs.declared.records.Kind.TheVariants.{Read, Write}
-use Rattle.dag.specs.declared.records.Access.{Access}
-use Rattle.dag.specs.declared.records.Placed.{Placed}
-use Rattle.dag.specs.Accesses.{writes, IsRaceShape}
 use Rattle.dag.specs.Bounds.{most_records}
-use Rattle.dag.specs.Traces.{at, depth, IsWellNested}
-use Rattle.dag.specs.Dag.{IsParallel, JoinsAt}
-use Rattle.dag.specs.Meeting.{level, Holds, IsMeeting}
-use Rattle.dag.specs.Races.{access, IsAccess, IsRead, IsWrite, IsAccessPlace, IsRace, IsReported, IsLastWrite, IsKeptReader, nothing_yet, no_read, first_read, replaces, stays}
-use Rattle.trace.specs.Watching.{ComesAfter}
-use Rattle.dag.proofs.Paths.{IsPlace-at, access-place, leads_or_parallel}
-use Rattle.dag.proofs.Meetings.{parallel-block}
-use Rattle.dag.proofs.Readers.{IsAccessPlace-at, read_or_write, kept_reads, NoneBefore, NoWrite, NoRead, last_write_parallel, reported_by_write, reported_by_reader, no_race_at_read, no_race_at_write, no_read_parallel}
-use Rattle.audit.specs.declared.answers.Opener.{Opener}
-use Rattle.audit.specs.declared.answers.Explained.{Explained}
-use Rattle.audit.specs.declared.meetings.Meetings.{Meetings}
-use Rattle.audit.specs.declared.explanations.Trail.{Trail}
 use Rattle.audit.specs.declared.explanations.Reported.{Reported}
-use Rattle.audit.specs.declared.explanations.Explaining.{Explaining}
-use Rattle.audit.specs.Following.{WhateverComes}
-use Rattle.audit.specs.Meetings.{HasMet, DecidesParallel, Moves}
-use Rattle.audit.specs.Explanations.{AreOpeners, WaitsAt, IsNextWait, AreJoined, IsExplained, Explains}
-use Rattle.audit.specs.Explaining.{IsTrail, Follows, KeepsWrite, KeepsReader, HasSought, IsUnjoined, reported_race, HasFoundRace, Stands, DecidesNow, IsRival, Joins, NextJoined, ReportsIt, Keeps, Sees, Seeks, HasExplained, explanation}
 use Rattle.audit.proofs.ListLemmas.{place_there, record_there}
 use Rattle.audit.proofs.PathLemmas.{step_by, step_out}
 use Rattle.audit.proofs.MeetingLemmas.{met_next}
 use Rattle.audit.proofs.PairLemmas.{race_writes}
 use Rattle.audit.proofs.TrailLemmas.{IsOpenerCount, IsLastOpener, openers_below, meeting_at_last, trail_next}
-
-read_no_write : (w : List Record) (l j : ℕ) → IsRead w l j → IsWrite w l j → ⊥
-read_no_write w l j a b = let e : Some (records.Read l) ≡ Some (records.Write l) = sym a ∙ b in cc
 
 -- what is known of an access that is kept
 pub record IsKept (w : List Record) (t : ℕ) (x : Trail) : Type 0 where

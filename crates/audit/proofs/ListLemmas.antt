@@ -1,7 +1,5 @@
 -- Lists that are longer by one, and the records behind others.
-use Rattle.std.proofs.Common.{◌≡◌, ℕ, zero, suc, ◌<◌, ◌≤◌, List, [], ◌∷◌, ◌++◌, length, take, slice_get, Some, ◌⊎◌, inl, inr, refl, ◌∙◌, ap, arith, length-append}
-use Rattle.dag.specs.declared.records.Record.{Record}
-use Rattle.dag.specs.Traces.{at}
+use Rattle.audit.proofs.Common.{◌≡◌, ℕ, zero, suc, ◌<◌, ◌≤◌, List, [], ◌∷◌, ◌++◌, length, take, slice_get, Some, ◌⊎◌, inl, inr, refl, ◌∙◌, ap, arith, length-append, Record, at}
 use Rattle.trace.proofs.Places.{at-front, at-seam}
 
 pub slice_get-push : {A : Type 0} (xs : List A) (x : A) (k : ℕ) (f : A) → slice_get (xs ++ x ∷ []) k ≡ Some f → (slice_get xs k ≡ Some f) ⊎ ((k ≡ length xs) × (x ≡ f))

@@ -1,22 +1,8 @@
 -- One more record is measured: its longest path, the active procedures after it, and the numbers at the end.
-use Rattle.std.proofs.Common.{◌≡◌, ◌≢◌, ℕ, zero, suc, ◌+◌, ◌<◌, ◌≤◌, max, Bool, true, false, List, [], ◌∷◌, ◌++◌, length, count_by, slice_get, Some, ◌⊎◌, inl, inr, refl, sym, ◌∙◌, subst, ap, arith, cond, append_assoc, length-append, Result, Ok, Err, OnOk}
-use Rattle.std.proofs.lemmas.List.{append-nil}
+use Rattle.audit.proofs.Common.{◌≡◌, ◌≢◌, ℕ, zero, suc, ◌+◌, ◌<◌, ◌≤◌, max, Bool, true, false, List, [], ◌∷◌, ◌++◌, length, count_by, slice_get, Some, ◌⊎◌, inl, inr, refl, sym, ◌∙◌, subst, ap, arith, cond, append_assoc, length-append, Result, Ok, Err, OnOk, append-nil, cases_lt, cases_eq, slice_get_within, Record, Spawn, Call, Return, Sync, Placed, at, depth, IsPlace, IsWellNested, JoinsAt, IsPath, Opens, Suspended, Measuring, is_spawn, IsMeasure, IsSpan, IsGreatestDepth, ComesAfter, PathTo, IsLongestTo, IsReturnOf, LeadsOn, at_start, own, opened, came_back, IsLongestUnjoined, opened_by, IsSuspended, AreLongest, IsSpanTo, IsDepthTo, HasMeasuredTo, IsWithin, HasMeasured, through, after_child, Advances, slice_get-front, slice_get-last}
 use Rattle.std.proofs.lemmas.List.Sums.{sum_by-append}
-use Rattle.std.proofs.lemmas.Bool.{cases_lt, cases_eq}
-use Rattle.std.proofs.lemmas.Option.{slice_get_within}
-use Rattle.dag.specs.declared.records.Record.{Record}
-use Rattle.dag.specs.declared.records.Record.TheVariants.{Spawn, Call, Return, Sync, Read, Write}
-use Rattle.dag.specs.declared.records.Placed.{Placed}
-use Rattle.dag.specs.Traces.{at, depth, IsPlace, IsWellNested}
-use Rattle.dag.specs.Dag.{JoinsAt, IsPath}
-use Rattle.dag.specs.Meeting.{Opens}
+use Rattle.dag.specs.declared.records.Record.TheVariants.{Read, Write}
 use Rattle.audit.specs.declared.measures.Longest.{Longest}
-use Rattle.audit.specs.declared.measures.Suspended.{Suspended}
-use Rattle.audit.specs.declared.measures.Measuring.{Measuring}
-use Rattle.audit.specs.Measures.{is_spawn, IsMeasure, IsSpan, IsGreatestDepth}
-use Rattle.trace.specs.Watching.{ComesAfter}
-use Rattle.audit.specs.LongestPaths.{PathTo, IsLongestTo, IsReturnOf, LeadsOn, at_start, own, opened, came_back, IsLongestUnjoined, opened_by, IsSuspended, AreLongest, IsSpanTo, IsDepthTo, HasMeasuredTo, IsWithin, HasMeasured, through, after_child, Advances}
-use Rattle.dag.proofs.Lists.{slice_get-front, slice_get-last}
 use Rattle.audit.proofs.ListLemmas.{slice_get-push, place_there, record_there}
 use Rattle.audit.proofs.PathLemmas.{path_to, path_list, path_place, opened_by-opens, opens_no_return, opens_no_join, one_opener, step_by, step_in, step_out, longest_on, longest_joined, last_kept, last_here, waits_on, waits_here, unjoined_kept, unjoined_synced, unjoined_opened, unjoined_returned}
 

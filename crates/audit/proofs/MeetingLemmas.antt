@@ -1,26 +1,6 @@
 -- Where an earlier access and the next place meet, by the active procedures, and that these are kept.
-use Rattle.std.proofs.Common.{◌≡◌, ℕ, suc, ◌-◌, ◌<◌, ◌≤◌, ◌↔◌, Bool, true, false, List, [], ◌∷◌, ◌++◌, length, take, slice_get, get_or, nat_lt, Some, ◌⊎◌, inl, inr, refl, sym, ◌∙◌, subst, ap, arith, append_assoc, length-append}
-use Rattle.std.proofs.lemmas.Bool.{cases_lt, cases_eq, ltb-true, ltb-false}
-use Rattle.std.proofs.lemmas.List.{length-take-le}
-use Rattle.std.proofs.lemmas.Option.{slice_get_within, slice_get-get_or, get_or_from_slice_get}
-use Rattle.std.specs.List.Sorted.{IsPartitionedBy, IsPartitionPoint}
-use Rattle.std.proofs.lemmas.List.Sorted.{IsPartitionedBy-ltb}
-use Rattle.dag.specs.declared.records.Record.{Record}
-use Rattle.dag.specs.declared.records.Record.TheVariants.{Spawn, Call, Return, Sync, Read, Write}
-use Rattle.dag.specs.declared.records.Placed.{Placed}
-use Rattle.dag.specs.Traces.{at, depth, IsPlace, IsWellNested}
-use Rattle.dag.specs.Dag.{IsParallel}
-use Rattle.dag.specs.Races.{IsAccessPlace}
-use Rattle.dag.specs.Meeting.{level, Opens, Holds, IsMeeting, IsOwn, InOneBlock}
-use Rattle.dag.proofs.Paths.{access-place}
-use Rattle.dag.proofs.Meetings.{level-at, opens-no_sync, root-holds, holds_from, holds-deeper, holds-shorter, Opened, opened_at, opened-holds, opened_below, opened-child, stand_of, OwnSync, own_sync-is, is_own_sync, block_same, block_less, stand-after, stand-le, before-stand, parallel-block}
-use Rattle.audit.specs.declared.meetings.Active.{Active}
-use Rattle.audit.specs.declared.meetings.Turn.{Turn}
-use Rattle.audit.specs.declared.meetings.Meetings.{Meetings}
-use Rattle.trace.specs.Watching.{ComesAfter}
-use Rattle.audit.specs.Following.{WhateverComes}
-use Rattle.audit.specs.Meetings.{IsActive, AreActive, ActiveAt, waits, executes, IsActivesOwn, HasTurn, AreTurns, AreMet, HasMet, IsLastOpenedBefore, DecidesUnjoined, DecidesUnjoinedAfter, DecidesTurn, DecidesParallel, EndsIn, TakesTurn, OpensChild, Leaves, Syncs, Moves}
-use Rattle.dag.proofs.Lists.{slice_get-front, slice_get-last, element_at}
+use Rattle.audit.proofs.Common.{◌≡◌, ℕ, suc, ◌-◌, ◌<◌, ◌≤◌, ◌↔◌, Bool, true, false, List, [], ◌∷◌, ◌++◌, length, take, slice_get, get_or, nat_lt, Some, ◌⊎◌, inl, inr, refl, sym, ◌∙◌, subst, ap, arith, append_assoc, length-append, cases_lt, cases_eq, ltb-true, ltb-false, length-take-le, slice_get_within, slice_get-get_or, get_or_from_slice_get, IsPartitionedBy, IsPartitionPoint, IsPartitionedBy-ltb, Record, Spawn, Call, Return, Sync, Placed, at, depth, IsPlace, IsWellNested, IsParallel, IsAccessPlace, level, Opens, Holds, IsMeeting, IsOwn, InOneBlock, access-place, level-at, opens-no_sync, root-holds, holds_from, holds-deeper, holds-shorter, Opened, opened_at, opened-holds, opened_below, opened-child, stand_of, OwnSync, own_sync-is, is_own_sync, block_same, block_less, stand-after, stand-le, before-stand, parallel-block, Active, Turn, Meetings, ComesAfter, WhateverComes, IsActive, AreActive, ActiveAt, waits, executes, IsActivesOwn, HasTurn, AreTurns, AreMet, HasMet, IsLastOpenedBefore, DecidesUnjoined, DecidesUnjoinedAfter, DecidesTurn, DecidesParallel, EndsIn, TakesTurn, OpensChild, Leaves, Syncs, Moves, slice_get-front, slice_get-last, element_at}
+use Rattle.dag.specs.declared.records.Record.TheVariants.{Read, Write}
 use Rattle.audit.proofs.ListLemmas.{slice_get-push, slice_get-take, take-slice_get, place_there, record_there}
 use Rattle.audit.proofs.PathLemmas.{step_by, step_out}
 

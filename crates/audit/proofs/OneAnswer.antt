@@ -1,25 +1,7 @@
 -- A question about a trace has one answer.
-use Rattle.std.proofs.Common.{◌≡◌, ℕ, suc, ◌<◌, List, [], ◌∷◌, Option, Some, None, ◌⊎◌, inl, inr, refl, sym, ap, subst, ◌∙◌, arith}
-use Rattle.std.specs.List.{All, AllPairs, AllByRecursion}
-use Rattle.std.proofs.lemmas.Bool.{cases_order}
-use Rattle.std.proofs.lemmas.List.Elements.{recursion_from_All}
-use Rattle.std.proofs.lemmas.Option.{slice_get_within, get_or_from_slice_get}
-use Rattle.dag.specs.declared.records.Record.{Record}
-use Rattle.dag.specs.declared.records.Access.{Access}
-use Rattle.dag.specs.Accesses.{RaceAt}
-use Rattle.dag.specs.Meeting.{IsMeeting}
-use Rattle.dag.specs.Races.{IsRace}
-use Rattle.dag.proofs.Once.{In, In_from, Contains_from, reported_once}
-use Rattle.audit.specs.declared.answers.Opener.{Opener}
-use Rattle.audit.specs.declared.answers.Explained.{Explained}
-use Rattle.audit.specs.Explanations.{AreOpeners, AreJoined, IsExplained, Explains, IsSameExplanation, IsSameAnswer}
+use Rattle.audit.proofs.Common.{◌≡◌, ℕ, suc, ◌<◌, List, [], ◌∷◌, Option, Some, None, ◌⊎◌, inl, inr, refl, sym, ap, subst, ◌∙◌, arith, All, AllPairs, AllByRecursion, cases_order, recursion_from_All, slice_get_within, get_or_from_slice_get, Record, Access, RaceAt, IsMeeting, IsRace, In, In_from, Contains_from, reported_once, Opener, Explained, AreOpeners, AreJoined, IsExplained, Explains, IsSameExplanation, IsSameAnswer, Confirm, Yes, No, IsMeasure, IsBefore, ArePairs, StatesRace, IsFirstWrong, Confirms}
 use Rattle.audit.proofs.TrailLemmas.{same_place}
 use Rattle.audit.specs.declared.answers.Measure.{Measure}
-use Rattle.audit.specs.declared.answers.Confirm.{Confirm}
-use Rattle.audit.specs.declared.answers.Confirm.TheVariants.{Yes, No}
-use Rattle.audit.specs.Measures.{IsMeasure}
-use Rattle.audit.specs.Pairs.{IsBefore, ArePairs}
-use Rattle.audit.specs.Confirms.{StatesRace, IsFirstWrong, Confirms}
 
 pub one_measure : (w : List Record) (m n : Measure) → IsMeasure w m → IsMeasure w n → m ≡ n
 one_measure w m n a b =

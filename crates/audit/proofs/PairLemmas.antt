@@ -1,31 +1,7 @@
 -- The races of one location, one access after another.
-use Rattle.std.proofs.Common.{◌≡◌, ◌≢◌, ℕ, suc, ◌+◌, ◌<◌, ◌≤◌, true, false, ◌||◌, List, [], ◌∷◌, ◌++◌, length, slice_get, get_or, Some, ◌⊎◌, inl, inr, refl, sym, ◌∙◌, subst, ap, arith, Contains, append_assoc, length-append, Result, Ok, Err, OnOk}
-use Rattle.std.proofs.lemmas.Bool.{cases_eq}
-use Rattle.std.proofs.lemmas.List.{append-nil}
-use Rattle.std.proofs.lemmas.List.Elements.{Contains-push, Contains-push_cases}
+use Rattle.audit.proofs.Common.{◌≡◌, ◌≢◌, ℕ, suc, ◌+◌, ◌<◌, ◌≤◌, true, false, ◌||◌, List, [], ◌∷◌, ◌++◌, length, slice_get, get_or, Some, ◌⊎◌, inl, inr, refl, sym, ◌∙◌, subst, ap, arith, Contains, append_assoc, length-append, Result, Ok, Err, OnOk, cases_eq, append-nil, Contains-push, Contains-push_cases, slice_get_within, slice_get-get_or, get_or_from_slice_get, Record, Kind, Read, Write, Access, Placed, writes, at, depth, IsWellNested, IsParallel, access, IsAccess, IsWrite, IsAccessPlace, IsRace, access-place, IsAccessPlace-at, read_or_write, kind_once, same_access, Meetings, KeptAccess, Pairing, ComesAfter, HasMet, DecidesParallel, Moves, IsPair, IsBefore, ArePairs, IsKept, IsAmong, AreKept, ArePairsTo, ArePairsWith, AddsPairs, HasPaired, slice_get-front, slice_get-last}
 use Rattle.std.proofs.lemmas.List.Quantifiers.{all_pairs_push}
-use Rattle.std.proofs.lemmas.Option.{slice_get_within, slice_get-get_or, get_or_from_slice_get}
-use Rattle.dag.specs.declared.records.Record.{Record}
 use Rattle.dag.specs.declared.records.Record.TheVariants as records
-use Rattle.dag.specs.declared.records.Kind.{Kind}
-use Rattle.dag.specs.declared.records.Kind.TheVariants.{Read, Write}
-use Rattle.dag.specs.declared.records.Access.{Access}
-use Rattle.dag.specs.declared.records.Placed.{Placed}
-use Rattle.dag.specs.Accesses.{writes}
-use Rattle.dag.specs.Traces.{at, depth, IsWellNested}
-use Rattle.dag.specs.Dag.{IsParallel}
-use Rattle.dag.specs.Races.{access, IsAccess, IsWrite, IsAccessPlace, IsRace}
-use Rattle.dag.proofs.Paths.{access-place}
-use Rattle.dag.proofs.Readers.{IsAccessPlace-at, read_or_write}
-use Rattle.dag.proofs.Once.{kind_once, same_access}
-use Rattle.audit.specs.declared.meetings.Meetings.{Meetings}
-use Rattle.audit.specs.declared.location_races.KeptAccess.{KeptAccess}
-use Rattle.audit.specs.declared.location_races.Pairing.{Pairing}
-use Rattle.trace.specs.Watching.{ComesAfter}
-use Rattle.audit.specs.Meetings.{HasMet, DecidesParallel, Moves}
-use Rattle.audit.specs.Pairs.{IsPair, IsBefore, ArePairs}
-use Rattle.audit.specs.Pairing.{IsKept, IsAmong, AreKept, ArePairsTo, ArePairsWith, AddsPairs, HasPaired}
-use Rattle.dag.proofs.Lists.{slice_get-front, slice_get-last}
 use Rattle.audit.proofs.ListLemmas.{slice_get-push, place_there, record_there}
 use Rattle.audit.proofs.MeetingLemmas.{met_next}
 

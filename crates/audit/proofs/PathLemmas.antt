@@ -1,15 +1,7 @@
 -- The longest paths of a well nested trace, one place after another.
-use Rattle.std.proofs.Common.{◌≡◌, ◌≢◌, ℕ, zero, suc, ◌<◌, ◌≤◌, max, Bool, true, false, List, [], ◌∷◌, length, Option, Some, ◌⊎◌, inl, inr, refl, sym, ◌∙◌, subst, ap, arith}
-use Rattle.std.proofs.lemmas.Bool.{cases_lt, cases_eq}
-use Rattle.dag.specs.declared.records.Record.{Record}
-use Rattle.dag.specs.declared.records.Record.TheVariants.{Spawn, Call, Return, Sync}
-use Rattle.dag.specs.Traces.{at, depth, IsPlace, IsWellNested}
-use Rattle.dag.specs.Dag.{Edge, continuation, spawn, call, comes_back, join, IsContinuation, IsComeback, IsJoin, JoinsAt, IsPath, end_of}
-use Rattle.dag.specs.Meeting.{Opens}
+use Rattle.audit.proofs.Common.{◌≡◌, ◌≢◌, ℕ, zero, suc, ◌<◌, ◌≤◌, max, Bool, true, false, List, [], ◌∷◌, length, Option, Some, ◌⊎◌, inl, inr, refl, sym, ◌∙◌, subst, ap, arith, cases_lt, cases_eq, Record, Spawn, Call, Return, Sync, at, depth, IsPlace, IsWellNested, Edge, continuation, spawn, call, comes_back, join, IsContinuation, IsComeback, IsJoin, JoinsAt, IsPath, end_of, Opens, Suspended, PathTo, IsLongestTo, LastOn, IsReturnOf, LeadsOn, at_start, own, opened, came_back, IsUnjoinedReturn, IsLongestUnjoined, opened_by, IsSuspended}
 use Rattle.dag.proofs.World.{Step, Reach, here, next, leaves, leaves_by, reach-return}
 use Rattle.dag.proofs.Traced.{traced, shape_of, is_call, opener_of, opener-is, shape-return, returns-shape, step_at, edge_from, edge_to, trace_edge}
-use Rattle.audit.specs.declared.measures.Suspended.{Suspended}
-use Rattle.audit.specs.LongestPaths.{PathTo, IsLongestTo, LastOn, IsReturnOf, LeadsOn, at_start, own, opened, came_back, IsUnjoinedReturn, IsLongestUnjoined, opened_by, IsSuspended}
 
 -- paths that end at a place
 

@@ -1,20 +1,8 @@
 -- The openers of the procedures that hold a place: how they change from record to record, and where two places meet.
-use Rattle.std.proofs.Common.{◌≡◌, ℕ, zero, suc, ◌+◌, ◌-◌, ◌<◌, ◌≤◌, true, false, List, [], ◌∷◌, ◌++◌, length, drop, slice_get, get_or, nat_lt, Some, ◌⊎◌, inl, inr, refl, sym, ◌∙◌, subst, ap, arith, Contains, length-append}
-use Rattle.std.proofs.lemmas.Bool.{cases_lt, cases_eq, cases_order, ltb-true, ltb-false}
-use Rattle.std.proofs.lemmas.Option.{slice_get_within, slice_get-get_or, get_or_from_slice_get}
-use Rattle.std.specs.List.Sorted.{IsPartitionedBy, IsPartitionPoint}
-use Rattle.std.proofs.lemmas.List.Sorted.{IsPartitionedBy-ltb}
-use Rattle.dag.specs.declared.records.Record.{Record}
+use Rattle.audit.proofs.Common.{◌≡◌, ℕ, zero, suc, ◌+◌, ◌-◌, ◌<◌, ◌≤◌, true, false, List, [], ◌∷◌, ◌++◌, length, drop, slice_get, get_or, nat_lt, Some, ◌⊎◌, inl, inr, refl, sym, ◌∙◌, subst, ap, arith, Contains, length-append, cases_lt, cases_eq, cases_order, ltb-true, ltb-false, slice_get_within, slice_get-get_or, get_or_from_slice_get, IsPartitionedBy, IsPartitionPoint, IsPartitionedBy-ltb, Record, at, depth, IsWellNested, level, Opens, Holds, IsMeeting, element_at, slice_get-front, level-at, root-holds, holds_from, holds-shorter, Opener, opening_record, AreOpeners, IsLink, IsTrail, Follows}
 use Rattle.dag.specs.declared.records.Record.TheVariants as records
-use Rattle.dag.specs.Traces.{at, depth, IsWellNested}
-use Rattle.dag.specs.Meeting.{level, Opens, Holds, IsMeeting}
-use Rattle.dag.proofs.Lists.{element_at, slice_get-front}
-use Rattle.dag.proofs.Meetings.{level-at, root-holds, holds_from, holds-shorter}
 use Rattle.audit.specs.declared.answers.Opening.{Opening}
 use Rattle.audit.specs.declared.answers.Opening.TheVariants.{Spawn, Call}
-use Rattle.audit.specs.declared.answers.Opener.{Opener}
-use Rattle.audit.specs.Explanations.{opening_record, AreOpeners}
-use Rattle.audit.specs.Explaining.{IsLink, IsTrail, Follows}
 use Rattle.audit.proofs.ListLemmas.{slice_get-push}
 use Rattle.audit.proofs.PathLemmas.{step_by, step_out}
 

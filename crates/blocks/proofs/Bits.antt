@@ -1,10 +1,5 @@
 -- The units of masks that the code makes.
-use Rattle.std.proofs.Common.{◌≡◌, ◌≢◌, ℕ, zero, suc, ◌-◌, ◌/◌, ◌^◌, ◌<◌, min, max, true, false, not, ◌&&◌, ◌||◌, refl, sym, ap, ◌∙◌, arith, nat_eq}
-use Rattle.std.specs.Int.{bit_at, bit_not, w64, trailing_zeros}
-use Rattle.std.specs.Int.RustNames.{bit_and, bit_or}
-use Rattle.std.proofs.lemmas.Nat.Bits.{bit_at_and, bit_at_or, bit_at_not, bit_at-lt, bit_at-zero, bit_at-trailing_zeros, shr_and_one}
-use Rattle.std.proofs.lemmas.Bool.{ne_eqb}
-use Rattle.blocks.specs.Masks.{has}
+use Rattle.blocks.proofs.Common.{◌≡◌, ◌≢◌, ℕ, zero, suc, ◌-◌, ◌/◌, ◌^◌, ◌<◌, min, max, true, false, not, ◌&&◌, ◌||◌, refl, sym, ap, ◌∙◌, arith, nat_eq, bit_at, bit_not, w64, trailing_zeros, bit_and, bit_or, bit_at_and, bit_at_or, bit_at_not, bit_at-lt, bit_at-zero, bit_at-trailing_zeros, shr_and_one, ne_eqb, has}
 
 both : (x y : ℕ) → x < 2 → y < 2 → nat_eq (min x y) 1 ≡ (nat_eq x 1 && nat_eq y 1)
 both zero zero a b = refl

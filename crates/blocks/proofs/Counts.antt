@@ -1,12 +1,7 @@
 -- How many units of a mask stand before one.
-use Rattle.std.proofs.Common.{◌≡◌, ℕ, zero, suc, ◌+◌, ◌*◌, ◌%◌, ◌^◌, ◌<◌, ◌≤◌, true, refl, sym, ap, ◌∙◌, ⊎_elim, subst, arith}
-use Rattle.std.specs.Int.{bit_at}
+use Rattle.blocks.proofs.Common.{◌≡◌, ℕ, zero, suc, ◌+◌, ◌*◌, ◌%◌, ◌^◌, ◌<◌, ◌≤◌, true, refl, sym, ap, ◌∙◌, ⊎_elim, subst, arith, bit_at, bit_at-lt, pow_pos, mod-pow-add, ones_cat, eqb-true, cases_lt, has, units_before}
 use Rattle.std.specs.Int.RustNames.{count_ones}
-use Rattle.std.proofs.lemmas.Nat.Bits.{bit_at-lt}
 use Rattle.std.proofs.Math.Nat.{mod-lt, mod-eq_of_lt, add_comm}
-use Rattle.std.proofs.lemmas.Nat.{pow_pos, mod-pow-add, ones_cat}
-use Rattle.std.proofs.lemmas.Bool.{eqb-true, cases_lt}
-use Rattle.blocks.specs.Masks.{has, units_before}
 
 pub before-le : (m i : ℕ) → units_before m i ≤ i
 before-le m zero = omega arith

@@ -1,11 +1,6 @@
 -- Pages in a list by their numbers: their indices, and what is kept after one of them changed.
-use Rattle.std.proofs.Common.{◌≡◌, ◌≢◌, ℕ, zero, suc, arith, ⊎_elim, List, [], ◌∷◌, Option, None, Some, Bool, true, false, cond, if◌then◌else◌, ◌==◌, nat_eq, unwrap_or, slice_get, option_map, position, get_or, length, ◌<◌, refl, sym, ap, ◌∙◌, Result, Ok, Err, OnErr}
-use Rattle.std.specs.Map.{lookup, keys_of, values_of}
-use Rattle.std.proofs.lemmas.Bool.{eqb-true, eq-eqb, ne_eqb}
-use Rattle.std.proofs.lemmas.Bool.Decides.{eqb_tells}
+use Rattle.blocks.proofs.Common.{◌≡◌, ◌≢◌, ℕ, zero, suc, arith, ⊎_elim, List, [], ◌∷◌, Option, None, Some, Bool, true, false, cond, if◌then◌else◌, ◌==◌, nat_eq, unwrap_or, slice_get, option_map, position, get_or, length, ◌<◌, refl, sym, ap, ◌∙◌, Result, Ok, Err, OnErr, lookup, keys_of, values_of, eqb-true, eq-eqb, ne_eqb, eqb_tells, Cell, Block, no_block, unit_cell, cell_of_unit, block_numbered, IsBlockAt, HasPutUnits}
 use Rattle.std.proofs.lemmas.List.Quantifiers.{position-Some}
-use Rattle.shadow.specs.Cells.{Cell}
-use Rattle.blocks.specs.Pages.{Block, no_block, unit_cell, cell_of_unit, block_numbered, IsBlockAt, HasPutUnits}
 
 -- a number at the place that its look-up gives
 pub at_its_index : (es : List (ℕ × Block)) (i page : ℕ) → position (nat_eq page) (keys_of es) ≡ Some i → IsBlockAt es i page

@@ -1,14 +1,8 @@
 -- Units that are taken out of all groups, from the last one to the first.
-use Rattle.std.proofs.Common.{◌≡◌, ℕ, zero, suc, ◌+◌, ◌-◌, ◌<◌, ◌≤◌, Bool, true, false, not, ◌&&◌, List, [], ◌∷◌, ◌++◌, take, drop, set, length, get_or, Option, Some, None, cond, refl, sym, ap, ◌∙◌, arith, length-set}
-use Rattle.std.specs.Option.{option_or}
-use Rattle.std.proofs.lemmas.List.{drop_all, get_or-take}
-use Rattle.blocks.specs.Masks.{has}
-use Rattle.blocks.specs.Groups.{names_at, no_group}
-use Rattle.blocks.specs.declared.step.Names.{Names}
-use Rattle.blocks.specs.declared.groups.Group.{Group}
+use Rattle.blocks.proofs.Common.{◌≡◌, ℕ, zero, suc, ◌+◌, ◌-◌, ◌<◌, ◌≤◌, Bool, true, false, not, ◌&&◌, List, [], ◌∷◌, ◌++◌, take, drop, set, length, get_or, Option, Some, None, cond, refl, sym, ap, ◌∙◌, arith, length-set, option_or, get_or-take, has, names_at, no_group, Names, Group}
 use Rattle.blocks.proofs.Bits.{has_zero}
 use Rattle.blocks.proofs.Looks.{with_one_before}
-use Rattle.blocks.proofs.Puts.{drop_set, behind_all}
+use Rattle.blocks.proofs.Puts.{or_none, drop_set, behind_all}
 
 -- from this index on the groups have none of the units, and before it they are as they were
 pub record HasForgotten (units : ℕ) (old : List Group) (n : ℕ) (gs : List Group) : Type 0 where
@@ -19,18 +13,6 @@ pub record HasForgotten (units : ℕ) (old : List Group) (n : ℕ) (gs : List Gr
 
 abbrev none : Option Names
 none = None
-
-same_in : (b : Bool) → none ≡ cond b none none
-same_in true = refl
-same_in false = refl
-
-pub forget_begins : (units : ℕ) (old : List Group) → HasForgotten units old (length old) old
-forget_begins units old = record {
-  within = omega arith;
-  first = refl;
-  before = omega arith;
-  kept = λ i h. ap (λ l. names_at l i) (drop_all (length old) old (omega arith)) ∙ same_in (has units i) ∙ sym (ap (λ l. cond (has units i) None (names_at l i)) (drop_all (length old) old (omega arith)));
-}
 
 -- the group at an index is as it was
 pub same_group : (units : ℕ) (old : List Group) (n : ℕ) (gs : List Group) → 0 < n → HasForgotten units old n gs → get_or gs (n - 1) no_group ≡ get_or old (n - 1) no_group
@@ -109,14 +91,6 @@ module _ (units left : ℕ) (old : List Group) (n : ℕ) (gs : List Group) (some
         first = first_of_all gs rest (n - 1) (omega (arith, inside)) ∙ less n (n - 1) gs old next l.first;
         before = omega (arith, l.before);
         kept = λ i k. ap (λ m. names_at m i) (behind_all gs rest (n - 1) (omega (arith, inside)) ∙ is)
-            ∙ nothing_left (names_at (drop n gs) i) ∙ sym (ap (λ b. option_or (names_at (drop n gs) i) (cond b (Some g.names) None)) (ap (λ m. has m i) z ∙ has_zero i))
+            ∙ or_none (names_at (drop n gs) i) ∙ sym (ap (λ b. option_or (names_at (drop n gs) i) (cond b (Some g.names) None)) (ap (λ m. has m i) z ∙ has_zero i))
             ∙ left_kept units left old n gs some l e i k;
       }
-    where
-      nothing_left : (o : Option Names) → o ≡ option_or o None
-      nothing_left None = refl
-      nothing_left (Some x) = refl
-
-pub forget_ends : (units : ℕ) (old : List Group) (n : ℕ) (gs : List Group) → n ≤ 0 → HasForgotten units old n gs → (i : ℕ) → i < 64 → names_at gs i ≡ cond (has units i) None (names_at old i)
-forget_ends units old (suc n) gs h l i k = absurd (omega (arith, h))
-forget_ends units old zero gs h l i k = l.kept i k

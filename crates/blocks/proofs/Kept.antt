@@ -1,19 +1,10 @@
 -- What is kept of all locations, after an access to units of one page.
-use Rattle.std.proofs.Common.{◌≡◌, ◌≢◌, ℕ, zero, suc, ◌<◌, ◌≤◌, ◌==◌, Bool, true, false, List, ◌++◌, if◌then◌else◌, nat_eq, refl, sym, ap, ◌∙◌, subst, ⊎_elim, arith}
-use Rattle.std.proofs.lemmas.Bool.Decides.{eqb_tells}
-use Rattle.std.specs.Option.{option_to_list}
-use Rattle.dag.specs.declared.records.Kind.{Kind}
-use Rattle.bags.specs.Procedures.{Active}
-use Rattle.shadow.specs.Cells.{Cell, untouched}
-use Rattle.shadow.specs.Before.{IsCellBefore}
-use Rattle.blocks.specs.Pages.{Block, location_of, cell_of_unit, forgotten_at, race_at_unit, races_up_to, HasPutUnits, HasSameUnits}
-use Rattle.blocks.specs.Blocks.{block_of, unit_of, first_of, Blocks, IsBlocksBefore}
-use Rattle.blocks.specs.Masks.{has}
-use Rattle.blocks.proofs.Named.{unit_later}
+use Rattle.blocks.proofs.Common.{◌≡◌, ◌≢◌, ℕ, zero, suc, ◌<◌, ◌≤◌, ◌==◌, Bool, true, false, List, ◌++◌, if◌then◌else◌, nat_eq, refl, sym, ap, ◌∙◌, subst, ⊎_elim, arith, eqb_tells, option_to_list, Kind, Active, Cell, untouched, IsCellBefore, Block, location_of, cell_of_unit, forgotten_at, race_at_unit, HasPutUnits, HasSameUnits, block_of, unit_of, first_of, Blocks, IsBlocksBefore, has, cell_later}
+use Rattle.blocks.specs.Pages.{races_up_to}
 
 -- cells that are of earlier places than one are of earlier ones than each later place
 pub all_later : (m : Blocks) (pages : List (ℕ × Block)) (place count : ℕ) → IsBlocksBefore m → HasSameUnits m.pages pages → m.next_place ≤ place → m.least_count ≤ count → (q k : ℕ) → k < 64 → IsCellBefore place count (cell_of_unit pages q k)
-all_later m pages place count before same h l q k u = subst (IsCellBefore place count) (sym (same q k)) (unit_later m.next_place place m.least_count count (cell_of_unit m.pages q k) h l (before q k u))
+all_later m pages place count before same h l q k u = subst (IsCellBefore place count) (sym (same q k)) (cell_later m.next_place place m.least_count count (cell_of_unit m.pages q k) h l (before q k u))
 
 -- and so they are after an access
 pub all_after : (old new : List (ℕ × Block)) (page place next count : ℕ) → ((q k : ℕ) → k < 64 → IsCellBefore place count (cell_of_unit old q k)) → place ≤ next → ((q k : ℕ) → q ≢ page → cell_of_unit new q k ≡ cell_of_unit old q k) → ((k : ℕ) → k < 64 → IsCellBefore next count (cell_of_unit new page k)) → (q k : ℕ) → k < 64 → IsCellBefore next count (cell_of_unit new q k)
@@ -23,7 +14,7 @@ all_after old new page place next count before h others own q k u = ⊎_elim her
     here (t, e) = subst (λ n. IsCellBefore next count (cell_of_unit new n k)) (sym e) (own k u)
 
     there : (nat_eq q page ≡ false) × (q ≢ page) → IsCellBefore next count (cell_of_unit new q k)
-    there (t, n) = subst (IsCellBefore next count) (sym (others q k n)) (unit_later place next count count (cell_of_unit old q k) h (omega arith) (before q k u))
+    there (t, n) = subst (IsCellBefore next count) (sym (others q k n)) (cell_later place next count count (cell_of_unit old q k) h (omega arith) (before q k u))
 
 -- and so they are after some were forgotten
 pub all_forgotten : (old new : List (ℕ × Block)) (page units place count : ℕ) → ((q k : ℕ) → k < 64 → IsCellBefore place count (cell_of_unit old q k)) → HasPutUnits page (λ i. forgotten_at units i (cell_of_unit old page i)) old new → (q k : ℕ) → k < 64 → IsCellBefore place count (cell_of_unit new q k)
@@ -56,10 +47,10 @@ races_of_same fs first kind place units c d (suc n) h =
     ∙ ap (λ x. races_up_to fs first kind place units d n ++ option_to_list (race_at_unit fs first kind place units n x)) (h n (omega arith))
 
 -- and at those of the locations of a page
-location_page : (page n : ℕ) → n < 64 → block_of (location_of (first_of page) n) ≡ page
+pub location_page : (page n : ℕ) → n < 64 → block_of (location_of (first_of page) n) ≡ page
 location_page page n h = omega (arith, h)
 
-location_unit : (page n : ℕ) → n < 64 → unit_of (location_of (first_of page) n) ≡ n
+pub location_unit : (page n : ℕ) → n < 64 → unit_of (location_of (first_of page) n) ≡ n
 location_unit page n h = omega (arith, h)
 
 pub races_at_locations : (fs : List Active) (kind : Kind) (place units : ℕ) (pages : List (ℕ × Block)) (page : ℕ) → races_up_to fs (first_of page) kind place units (cell_of_unit pages page) 64

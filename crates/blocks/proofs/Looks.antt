@@ -1,19 +1,5 @@
 -- A look at groups from the last one to the first: the units that none of them had, and those at which an access races.
-use Rattle.std.proofs.Common.{◌≡◌, ℕ, zero, suc, ◌-◌, ◌/◌, ◌^◌, ◌<◌, ◌≤◌, ◌≢◌, Bool, true, false, not, ◌&&◌, ◌||◌, List, [], ◌∷◌, drop, length, get_or, Option, Some, None, is_none, unwrap_or, nat_eq, cond, refl, sym, ap, ◌∙◌, subst, arith}
-use Rattle.std.specs.Int.{bit_not, w64}
-use Rattle.std.specs.Int.RustNames.{bit_and, bit_or}
-use Rattle.std.specs.Option.{option_or, ForSome}
-use Rattle.std.proofs.Math.Seq.{drop-cons}
-use Rattle.std.proofs.lemmas.List.{drop_all}
-use Rattle.std.proofs.lemmas.Nat.{and_le_r}
-use Rattle.std.proofs.lemmas.Nat.Bits.{shr_and_one}
-use Rattle.dag.specs.declared.records.Kind.{Kind}
-use Rattle.bags.specs.Procedures.{Active}
-use Rattle.blocks.specs.Masks.{has}
-use Rattle.blocks.specs.Steps.{has_rival, no_steps}
-use Rattle.blocks.specs.Groups.{names_at, names_of, is_racy, no_group}
-use Rattle.blocks.specs.declared.step.Names.{Names}
-use Rattle.blocks.specs.declared.groups.Group.{Group}
+use Rattle.blocks.proofs.Common.{◌≡◌, ℕ, zero, suc, ◌-◌, ◌/◌, ◌^◌, ◌<◌, ◌≤◌, ◌≢◌, Bool, true, false, not, ◌&&◌, ◌||◌, List, [], ◌∷◌, drop, length, get_or, Option, Some, None, is_none, unwrap_or, nat_eq, cond, refl, sym, ap, ◌∙◌, subst, arith, bit_not, w64, bit_and, bit_or, option_or, ForSome, drop-cons, drop_all, and_le_r, shr_and_one, Kind, Active, has, has_rival, no_steps, names_at, names_of, is_racy, no_group, Names, Group}
 use Rattle.blocks.proofs.Bits.{has_and, has_or, has_not, has_zero, has_some}
 
 -- the units that no group has
@@ -191,9 +177,6 @@ known_inside P units rest gs n h k f r z known =
 pub record HasNotFound (unit : ℕ) (gs : List Group) (n : ℕ) : Type 0 where
   pub within : n ≤ length gs
   pub none : names_at (drop n gs) unit ≡ None
-
-pub not_found_yet : (unit : ℕ) (gs : List Group) → HasNotFound unit gs (length gs)
-not_found_yet unit gs = record { within = omega arith; none = ap (λ l. names_at l unit) (drop_all (length gs) gs (omega arith)) }
 
 pub found_here : (unit : ℕ) (gs : List Group) (n : ℕ) → 0 < n → bit_and ((get_or gs (n - 1) no_group).units / 2 ^ unit) 1 ≡ 1 → HasNotFound unit gs n → (get_or gs (n - 1) no_group).names ≡ names_of gs unit
 found_here unit gs n h e l =

@@ -1,21 +1,6 @@
 -- What the names of units say of each of them.
-use Rattle.std.proofs.Common.{◌≡◌, ◌≢◌, ℕ, zero, suc, ◌+◌, ◌^◌, ◌<◌, ◌≤◌, Bool, true, false, not, ◌||◌, ◌&&◌, is_some, unwrap_or, ◌⊎◌, ⊎_elim, Option, Some, None, List, cond, refl, sym, ap, ◌∙◌, subst, arith}
-use Rattle.std.specs.Option.{option_or, ForSome}
-use Rattle.std.specs.Int.RustNames.{count_ones}
-use Rattle.dag.specs.declared.records.Kind.{Kind}
-use Rattle.dag.specs.declared.records.Kind.TheVariants.{Read, Write}
-use Rattle.dag.specs.declared.records.Access.{Access}
-use Rattle.bags.specs.Procedures.{Active, in_p, current}
-use Rattle.shadow.specs.Cells.{Name, Cell, parallel_access, rival, stands_in_p, name_of, touched, race_with}
-use Rattle.shadow.specs.Before.{IsNameBefore, IsCellBefore}
-use Rattle.blocks.specs.Masks.{has, units_before}
-use Rattle.blocks.specs.Steps.{name_from, name_in, is_in_p_from, is_step_in_p, touched_names, names_after, no_steps, named_cell}
-use Rattle.blocks.specs.Groups.{names_at, names_of, names_of_touched, is_racy, AreKnown}
-use Rattle.blocks.specs.Pages.{touched_at}
+use Rattle.blocks.proofs.Common.{◌≡◌, ◌≢◌, ℕ, zero, suc, ◌+◌, ◌^◌, ◌<◌, ◌≤◌, Bool, true, false, not, ◌||◌, ◌&&◌, is_some, unwrap_or, ◌⊎◌, ⊎_elim, Option, Some, None, List, cond, refl, sym, ap, ◌∙◌, subst, arith, option_or, ForSome, count_ones, Kind, Read, Write, Access, Active, in_p, current, Name, Cell, parallel_access, rival, stands_in_p, name_of, touched, race_with, IsNameBefore, IsCellBefore, has, units_before, name_from, name_in, is_in_p_from, is_step_in_p, touched_names, names_after, no_steps, named_cell, names_at, names_of, names_of_touched, is_racy, AreKnown, touched_at, Step, Names, Group, cell_later}
 use Rattle.blocks.proofs.Counts.{one_of_all}
-use Rattle.blocks.specs.declared.step.Step.{Step}
-use Rattle.blocks.specs.declared.step.Names.{Names}
-use Rattle.blocks.specs.declared.groups.Group.{Group}
 
 known_from : (procedure p b place count : ℕ) → ForSome (name_from procedure p b) (IsNameBefore place count) → p ≢ 0 → procedure < count
 known_from procedure zero b place count f h = absurd (h refl)
@@ -33,8 +18,8 @@ known_names gs unit place count b h n e =
 name_later : (p q c d : ℕ) (o : Option Name) → p ≤ q → c ≤ d → ForSome o (IsNameBefore p c) → ForSome o (IsNameBefore q d)
 name_later p q c d o h l f n e = let x = f n e in record { from_one = x.from_one; earlier = omega (arith, h, x.earlier); known = omega (arith, l, x.known) }
 
-pub cell_later : (p q count : ℕ) (n : Names) (unit : ℕ) (a b : Bool) → p ≤ q → IsCellBefore p count (named_cell n unit a) → IsCellBefore q count (named_cell n unit b)
-cell_later p q count n unit a b h c = record { writer = name_later p q count count (name_in n.writer unit) h (omega arith) c.writer; reader = name_later p q count count (name_in n.reader unit) h (omega arith) c.reader }
+pub named_later : (p q count : ℕ) (n : Names) (unit : ℕ) (a b : Bool) → p ≤ q → IsCellBefore p count (named_cell n unit a) → IsCellBefore q count (named_cell n unit b)
+named_later p q count n unit a b h c = record { writer = name_later p q count count (name_in n.writer unit) h (omega arith) c.writer; reader = name_later p q count count (name_in n.reader unit) h (omega arith) c.reader }
 
 parallel_from : (fs : List Active) (k : Kind) (procedure p b : ℕ) → is_in_p_from fs procedure p ≡ is_some (parallel_access fs k (name_from procedure p b))
 parallel_from fs k procedure zero b = refl
@@ -116,9 +101,6 @@ cell_after fs kind step unit o b x e h f = go (has step.units unit) refl
     go true g = after_step fs kind step unit (unwrap_or o no_steps) b (b || x) e h (reported_cases (has step.units unit) (is_racy fs kind o) b x f g ∙ ap (λ r. b || r) (racy_is_rival fs kind o unit b))
     go false g = ap (named_cell (unwrap_or o no_steps) unit) (unreported_cases (has step.units unit) (is_racy fs kind o) b x f g)
 
-pub unit_later : (p q m n : ℕ) (c : Cell) → p ≤ q → m ≤ n → IsCellBefore p m c → IsCellBefore q n c
-unit_later p q m n c h l x = record { writer = name_later p q m n c.writer h l x.writer; reader = name_later p q m n c.reader h l x.reader }
-
 new_name : (fs : List Active) (p q count : ℕ) → current fs < count → 1 ≤ p → p < q → ForSome (name_of fs p) (IsNameBefore q count)
 new_name fs p q count k h l n e = subst (IsNameBefore q count) (some_is _ n e) (record { from_one = h; earlier = l; known = k })
   where
@@ -138,7 +120,7 @@ pub touched_earlier : (fs : List Active) (kind : Kind) (place units unit count :
 touched_earlier fs kind place units unit count c k h f u x = go (has units unit) refl
   where
     later : IsCellBefore (place + count_ones units) count c
-    later = unit_later place (place + count_ones units) count count c (omega arith) (omega arith) x
+    later = cell_later place (place + count_ones units) count count c (omega arith) (omega arith) x
 
     go : (t : Bool) → has units unit ≡ t → IsCellBefore (place + count_ones units) count (cond t (touched fs kind (place + units_before units unit) c) c)
     go true e = touched_before fs kind (place + units_before units unit) (place + count_ones units) count c k (omega (arith, h)) (omega (arith, one_of_all units unit f u e)) later
@@ -149,7 +131,7 @@ pub partly_earlier : (fs : List Active) (kind : Kind) (step : Step) (unit count 
 partly_earlier fs kind step unit count n m b p k e h f u x = ⊎_elim same other p
   where
     same : m ≡ n → IsCellBefore (step.place + count_ones step.units) count (named_cell m unit b)
-    same q = subst (λ o. IsCellBefore (step.place + count_ones step.units) count (named_cell o unit b)) (sym q) (cell_later step.place (step.place + count_ones step.units) count n unit b b (omega arith) x)
+    same q = subst (λ o. IsCellBefore (step.place + count_ones step.units) count (named_cell o unit b)) (sym q) (named_later step.place (step.place + count_ones step.units) count n unit b b (omega arith) x)
 
     other : (has step.units unit ≡ true) × (m ≡ names_after fs kind step n) → IsCellBefore (step.place + count_ones step.units) count (named_cell m unit b)
     other q =
@@ -157,5 +139,5 @@ partly_earlier fs kind step unit count n m b p k e h f u x = ⊎_elim same other
         let after : IsCellBefore (step.place + count_ones step.units) count (touched fs kind (step.place + units_before step.units unit) (named_cell n unit b))
         = subst (λ t. IsCellBefore (step.place + count_ones step.units) count (cond t (touched fs kind (step.place + units_before step.units unit) (named_cell n unit b)) (named_cell n unit b))) q.0 (touched_earlier fs kind step.place step.units unit count (named_cell n unit b) k h f u x) in
         subst (λ o. IsCellBefore (step.place + count_ones step.units) count (named_cell o unit b)) (sym q.1)
-        (cell_later (step.place + count_ones step.units) (step.place + count_ones step.units) count (names_after fs kind step n) unit c b (omega arith)
+        (named_later (step.place + count_ones step.units) (step.place + count_ones step.units) count (names_after fs kind step n) unit c b (omega arith)
         (subst (IsCellBefore (step.place + count_ones step.units) count) (sym (after_step fs kind step unit n b c e h refl)) after))

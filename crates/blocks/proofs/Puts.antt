@@ -1,13 +1,5 @@
 -- What groups keep of each unit, after one of them got more units, lost some, or was added.
-use Rattle.std.proofs.Common.{◌≡◌, ℕ, zero, suc, ◌<◌, ◌≤◌, Bool, true, false, not, ◌&&◌, ◌||◌, List, [], ◌∷◌, ◌++◌, take, drop, set, length, get_or, Option, Some, None, cond, refl, sym, ap, ◌∙◌, subst, arith, ◌^◌}
-use Rattle.std.proofs.lemmas.List.{take-append-drop}
-use Rattle.std.specs.Int.{bit_not, w64}
-use Rattle.std.specs.Int.RustNames.{bit_and, bit_or}
-use Rattle.std.specs.Option.{option_or}
-use Rattle.blocks.specs.Masks.{has}
-use Rattle.blocks.specs.Groups.{names_at, no_group}
-use Rattle.blocks.specs.declared.step.Names.{Names}
-use Rattle.blocks.specs.declared.groups.Group.{Group}
+use Rattle.blocks.proofs.Common.{◌≡◌, ℕ, zero, suc, ◌<◌, ◌≤◌, Bool, true, false, not, ◌&&◌, ◌||◌, List, [], ◌∷◌, ◌++◌, take, drop, set, length, get_or, Option, Some, None, cond, refl, sym, ap, ◌∙◌, arith, ◌^◌, take-append-drop, bit_not, w64, bit_and, bit_or, option_or, has, names_at, no_group, Names, Group}
 use Rattle.blocks.proofs.Bits.{has_or, has_and, has_not}
 
 first_of : (b : Bool) (n : Names) (o p : Option Names) → option_or (cond b (Some n) o) p ≡ cond b (Some n) (option_or o p)
@@ -43,12 +35,12 @@ grown_behind [] (suc count) at units i h k f = absurd (omega (arith, h))
 grown_behind (g ∷ gs) (suc count) zero units i h k f = absurd (omega (arith, k))
 grown_behind (g ∷ gs) (suc count) (suc at) units i h k f = grown_behind gs count at units i (omega (arith, h)) (omega (arith, k)) f
 
+pub or_none : (o : Option Names) → o ≡ option_or o None
+or_none None = refl
+or_none (Some n) = refl
+
 pub names_append : (gs hs : List Group) (i : ℕ) → names_at (gs ++ hs) i ≡ option_or (names_at hs i) (names_at gs i)
 names_append [] hs i = or_none (names_at hs i)
-  where
-    or_none : (o : Option Names) → o ≡ option_or o None
-    or_none None = refl
-    or_none (Some n) = refl
 names_append (g ∷ gs) hs i = ap (λ o. option_or o (cond (has g.units i) (Some g.names) None)) (names_append gs hs i) ∙ or_or (names_at hs i) (names_at gs i) _
   where
     or_or : (o p q : Option Names) → option_or (option_or o p) q ≡ option_or o (option_or p q)
@@ -101,14 +93,6 @@ gone_cases false m n (Some x) = refl
 
 pub gone : (g : Group) (gs : List Group) (inside : ℕ) (n : Names) (i : ℕ) → inside ≡ g.units → cond (has inside i) (Some n) (names_at gs i) ≡ cond (has inside i) (Some n) (names_at (g ∷ gs) i)
 gone g gs inside n i e = gone_cases (has inside i) g.names n (names_at gs i) ∙ ap (λ u. cond (has inside i) (Some n) (option_or (names_at gs i) (cond (has u i) (Some g.names) None))) e
-
--- a group whose units get other names, and no later one has them
-new_cases : (b : Bool) (m n : Names) (o : Option Names) → (b ≡ true → o ≡ None) → option_or o (cond b (Some n) None) ≡ cond b (Some n) (option_or o (cond b (Some m) None))
-new_cases true m n o f = ap (λ p. option_or p (Some n)) (f refl)
-new_cases false m n o f = refl
-
-pub renamed : (g : Group) (gs : List Group) (inside : ℕ) (n : Names) (i : ℕ) → inside ≡ g.units → (has inside i ≡ true → names_at gs i ≡ None) → names_at (record { units = g.units; names = n } ∷ gs) i ≡ cond (has inside i) (Some n) (names_at (g ∷ gs) i)
-renamed g gs inside n i e f = subst (λ u. option_or (names_at gs i) (cond (has u i) (Some n) None) ≡ cond (has inside i) (Some n) (option_or (names_at gs i) (cond (has u i) (Some g.names) None))) e (new_cases (has inside i) g.names n (names_at gs i) f)
 
 -- none of the last groups has a unit that none of more groups has
 pub none_later : (gs : List Group) (j k i : ℕ) → j ≤ k → names_at (drop j gs) i ≡ None → names_at (drop k gs) i ≡ None

@@ -1,20 +1,9 @@
 -- The races that an access reports at the units of a page.
-use Rattle.std.proofs.Common.{◌≡◌, ℕ, zero, suc, ◌+◌, ◌<◌, ◌≤◌, Bool, true, false, not, ◌&&◌, is_some, unwrap_or, List, [], ◌++◌, Option, Some, None, refl, sym, ap, ◌∙◌, arith, append-nil}
-use Rattle.std.specs.Option.{option_to_list}
-use Rattle.std.specs.Int.RustNames.{bit_and}
-use Rattle.blocks.specs.declared.step.Names.{Names}
-use Rattle.blocks.specs.declared.groups.Group.{Group}
-use Rattle.dag.specs.declared.records.Kind.{Kind}
-use Rattle.dag.specs.declared.records.Access.{Access}
-use Rattle.dag.specs.Accesses.{RaceAt}
-use Rattle.bags.specs.Procedures.{Active}
-use Rattle.shadow.specs.Cells.{rival, race_with}
-use Rattle.blocks.specs.Masks.{has, units_before}
-use Rattle.blocks.specs.Steps.{no_steps, named_cell}
-use Rattle.blocks.specs.Groups.{names_at, is_racy}
-use Rattle.blocks.specs.Pages.{Block, AreNew, unit_cell, location_of, race_at_unit, races_up_to}
+use Rattle.blocks.proofs.Common.{◌≡◌, ℕ, zero, suc, ◌+◌, ◌<◌, ◌≤◌, Bool, true, false, not, ◌&&◌, is_some, unwrap_or, List, [], ◌++◌, Option, Some, None, refl, sym, ap, ◌∙◌, arith, append-nil, option_to_list, bit_and, Names, Group, Kind, Access, RaceAt, Active, rival, race_with, has, units_before, no_steps, named_cell, names_at, is_racy, Block, AreNew, unit_cell, location_of, race_at_unit}
+use Rattle.blocks.specs.Pages.{races_up_to}
 use Rattle.blocks.proofs.Bits.{has_and, has_zero}
 use Rattle.blocks.proofs.Named.{racy_is_rival, calm_race, new_race, rival_of_any}
+use Rattle.blocks.proofs.Renames.{and_first}
 
 and_and : (u r b : Bool) → ((u && r) && b) ≡ (u && (r && b))
 and_and true r b = refl
@@ -60,13 +49,9 @@ unfolding races_up_to
 no_races fs first kind place units p racy zero new z h = refl
 no_races fs first kind place units p racy (suc n) new z h = races_same fs first kind place units p racy n new (omega (arith, h)) (ap (λ m. has m n) z ∙ has_zero n) ∙ no_races fs first kind place units p racy n new z (omega (arith, h))
 
-first_of : (a b : Bool) → (a && b) ≡ true → a ≡ true
-first_of true b e = refl
-first_of false b e = absurd (cc)
-
 -- a unit with a race is one of those that are accessed
 pub is_accessed : (fs : List Active) (kind : Kind) (units : ℕ) (p : Block) (racy i : ℕ) → AreNew fs kind units p racy → i < 64 → has racy i ≡ true → has units i ≡ true
-is_accessed fs kind units p racy i new h e = first_of (has units i) _ (sym (new i h) ∙ e)
+is_accessed fs kind units p racy i new h e = and_first (has units i) _ (sym (new i h) ∙ e)
 
 pub races_begin : (fs : List Active) (first : ℕ) (kind : Kind) (place units : ℕ) (p : Block) (rs : List RaceAt) → rs ≡ rs ++ races_up_to fs first kind place units (unit_cell p) 0
 unfolding races_up_to

@@ -1,18 +1,5 @@
 -- An access that goes through groups from the last one to the first, and gives their units other names.
-use Rattle.std.proofs.Common.{◌≡◌, ◌≢◌, ℕ, zero, suc, ◌-◌, ◌^◌, ◌<◌, ◌≤◌, ◌⊎◌, inl, inr, Bool, true, false, not, ◌&&◌, List, ◌∷◌, take, drop, length, get_or, Option, Some, None, option_map, unwrap_or, is_some, ◌||◌, ⊎_elim, cond, refl, sym, ap, ◌∙◌, arith}
-use Rattle.std.specs.Int.{bit_not, w64}
-use Rattle.std.specs.Int.RustNames.{bit_and, bit_or}
-use Rattle.std.specs.Option.{option_or, ForSome}
-use Rattle.std.proofs.lemmas.List.{drop_all}
-use Rattle.dag.specs.declared.records.Kind.{Kind}
-use Rattle.dag.specs.declared.records.Kind.TheVariants.{Read, Write}
-use Rattle.bags.specs.Procedures.{Active}
-use Rattle.blocks.specs.Masks.{has}
-use Rattle.blocks.specs.Steps.{keeps_names, touched_names, names_after, no_steps}
-use Rattle.blocks.specs.Groups.{names_at, names_of, names_at_touched, names_of_touched, no_group, IsPartly}
-use Rattle.blocks.specs.declared.step.Step.{Step}
-use Rattle.blocks.specs.declared.step.Names.{Names}
-use Rattle.blocks.specs.declared.groups.Group.{Group}
+use Rattle.blocks.proofs.Common.{◌≡◌, ◌≢◌, ℕ, ◌-◌, ◌^◌, ◌<◌, ◌≤◌, ◌⊎◌, inl, inr, Bool, true, false, not, ◌&&◌, List, ◌∷◌, take, drop, length, get_or, Option, Some, None, option_map, unwrap_or, is_some, ◌||◌, ⊎_elim, cond, refl, sym, ap, ◌∙◌, arith, bit_not, w64, bit_and, bit_or, option_or, ForSome, Kind, Read, Write, Active, has, keeps_names, touched_names, names_after, no_steps, names_at, names_of, names_at_touched, names_of_touched, no_group, IsPartly, Step, Names, Group}
 use Rattle.blocks.proofs.Bits.{has_and, has_or, has_not, has_zero, has_some}
 use Rattle.blocks.proofs.Puts.{put_before}
 use Rattle.blocks.proofs.Looks.{with_one_before, names_behind, fits_and}
@@ -23,19 +10,6 @@ pub record HasRenamed (fs : List Active) (kind : Kind) (step : Step) (units : �
   pub none : (i : ℕ) → i < 64 → has rest i ≡ true → names_at (drop n gs) i ≡ None
   pub kept : (i : ℕ) → i < 64 → names_at gs i ≡ names_at_touched fs kind step (has units i && not (has rest i)) (names_at old i)
   pub rest_of : (i : ℕ) → i < 64 → has rest i ≡ true → has units i ≡ true
-
-pub rename_begins : (fs : List Active) (kind : Kind) (step : Step) (units : ℕ) (old : List Group) → HasRenamed fs kind step units old (length old) (length old) units old
-rename_begins fs kind step units old = record {
-  within = omega arith;
-  from_within = omega arith;
-  none = λ i h e. ap (λ l. names_at l i) (drop_all (length old) old (omega arith));
-  kept = λ i h. go (has units i) (names_at old i);
-  rest_of = λ i h e. e;
-}
-  where
-    go : (u : Bool) (o : Option Names) → o ≡ names_at_touched fs kind step (u && not u) o
-    go true o = refl
-    go false o = refl
 
 -- the units of a group among the rest
 has_rest : (g rest i : ℕ) → rest < 2 ^ 64 → i < 64 → has (bit_and rest (bit_not w64 (bit_and g rest))) i ≡ (has rest i && not (has g i && has rest i))
@@ -147,46 +121,6 @@ rename_changes fs kind step units old n from new_from rest gs new h f e w v firs
           ∙ ap (λ b. names_at_touched fs kind step (has units i && not b) (names_at old i)) (sym (has_rest g.units rest i f k));
       rest_of = λ i k x. l.rest_of i k (left_rest (has rest i) (has g.units i) (sym (has_rest g.units rest i f k) ∙ x));
     }
-
--- no unit is left
-pub rename_done : (fs : List Active) (kind : Kind) (step : Step) (units : ℕ) (old : List Group) (n from rest : ℕ) (gs : List Group) → rest ≡ 0 → HasRenamed fs kind step units old n from rest gs → (i : ℕ) → i < 64 → names_at gs i ≡ names_at_touched fs kind step (has units i) (names_at old i)
-rename_done fs kind step units old n from rest gs z l i k = l.kept i k ∙ ap (λ b. names_at_touched fs kind step b (names_at old i)) (ap (λ b. has units i && not b) (ap (λ m. has m i) z ∙ has_zero i) ∙ go (has units i))
-  where
-    go : (u : Bool) → (u && true) ≡ u
-    go true = refl
-    go false = refl
-
-end_cases : (fs : List Active) (kind : Kind) (step : Step) (u r : Bool) (o p : Option Names) → (r ≡ true → u ≡ true) → (r ≡ true → p ≡ None) → p ≡ names_at_touched fs kind step (u && not r) o → p ≡ names_at_touched fs kind step u o
-end_cases fs kind step true false o p f w e = e
-end_cases fs kind step false false o p f w e = e
-end_cases fs kind step false true o p f w e = e
-end_cases fs kind step true true o p f w e = e ∙ sym e ∙ w refl ∙ ap (option_map (names_after fs kind step)) (sym (sym e ∙ w refl))
-
--- no group is left
-pub rename_ends : (fs : List Active) (kind : Kind) (step : Step) (units : ℕ) (old : List Group) (n from rest : ℕ) (gs : List Group) → n ≤ 0 → HasRenamed fs kind step units old n from rest gs → (i : ℕ) → i < 64 → names_at gs i ≡ names_at_touched fs kind step (has units i) (names_at old i)
-rename_ends fs kind step units old (suc n) from rest gs h l i k = absurd (omega (arith, h))
-rename_ends fs kind step units old zero from rest gs h l i k = end_cases fs kind step (has units i) (has rest i) (names_at old i) (names_at gs i) (l.rest_of i k) (l.none i k) (l.kept i k)
-
-part_cases : (fs : List Active) (kind : Kind) (step : Step) (u b : Bool) (o p : Option Names) → (b ≡ true → u ≡ true) → p ≡ names_at_touched fs kind step b o → (unwrap_or p no_steps ≡ unwrap_or o no_steps) ⊎ ((u ≡ true) × (unwrap_or p no_steps ≡ names_after fs kind step (unwrap_or o no_steps)))
-part_cases fs kind step u false o p f e = inl (ap (λ x. unwrap_or x no_steps) e)
-part_cases fs kind step u true None p f e = inl (ap (λ x. unwrap_or x no_steps) e)
-part_cases fs kind step u true (Some n) p f e = inr (f refl, ap (λ x. unwrap_or x no_steps) e)
-
--- at each moment
-pub rename_partly : (fs : List Active) (kind : Kind) (step : Step) (units : ℕ) (old : List Group) (n from rest : ℕ) (gs : List Group) → HasRenamed fs kind step units old n from rest gs → IsPartly fs kind step units old gs
-rename_partly fs kind step units old n from rest gs l i k = part_cases fs kind step (has units i) (has units i && not (has rest i)) (names_at old i) (names_at gs i) (and_first (has units i) (not (has rest i))) (l.kept i k)
-
-pub whole_partly : (fs : List Active) (kind : Kind) (step : Step) (units : ℕ) (old gs : List Group) → ((i : ℕ) → i < 64 → names_at gs i ≡ names_at_touched fs kind step (has units i) (names_at old i)) → IsPartly fs kind step units old gs
-whole_partly fs kind step units old gs h i k = part_cases fs kind step (has units i) (has units i) (names_at old i) (names_at gs i) (λ e. e) (h i k)
-
-some_cases : (fs : List Active) (kind : Kind) (step : Step) (b : Bool) (o : Option Names) → is_some (names_at_touched fs kind step b o) ≡ is_some o
-some_cases fs kind step false o = refl
-some_cases fs kind step true None = refl
-some_cases fs kind step true (Some n) = refl
-
--- the units that groups have stay
-pub rename_some : (fs : List Active) (kind : Kind) (step : Step) (units : ℕ) (old : List Group) (n from rest : ℕ) (gs : List Group) → HasRenamed fs kind step units old n from rest gs → (i : ℕ) → i < 64 → is_some (names_at gs i) ≡ is_some (names_at old i)
-rename_some fs kind step units old n from rest gs l i k = ap is_some (l.kept i k) ∙ some_cases fs kind step (has units i && not (has rest i)) (names_at old i)
 
 unnamed : (fs : List Active) (kind : Kind) (step : Step) → touched_names kind step no_steps ≡ names_after fs kind step no_steps
 unnamed fs Read step = refl

@@ -1,13 +1,7 @@
 -- Lists of races that ascend by location, by recursion.
-use Rattle.std.proofs.Common.{◌≡◌, ℕ, ◌<◌, List, [], ◌∷◌, sym, arith}
-use Rattle.std.specs.Cmp.{nat_cmp_is, ranked}
-use Rattle.std.specs.List.{AllByRecursion}
+use Rattle.collect.proofs.Common.{◌≡◌, ℕ, ◌<◌, List, [], ◌∷◌, sym, arith, nat_cmp_is, ranked, AllByRecursion, nat_cmp, Less, RaceAt, locations}
 use Rattle.std.specs.List.Sorted.{IsStrictlyIncreasing, IsStrictlySortedBy}
-use Rattle.std.specs.Ordering.{nat_cmp}
 use Rattle.std.proofs.lemmas.Map.Keys.{sorted_head, sorted_tail, sorted_from_strictly_increasing, IsStrictlyIncreasing-from_sorted}
-use Rattle.std.specs.declared.cmp.Ordering.TheVariants.{Less}
-use Rattle.dag.specs.Accesses.{RaceAt}
-use Rattle.collect.specs.Reports.{locations}
 
 -- each location of the list is above l
 abbrev pub Above : ℕ → List RaceAt → Type 0

@@ -1,13 +1,6 @@
 -- What a collector holds after one more race.
-use Rattle.std.proofs.Common.{◌≡◌, ℕ, Bool, true, false, cond, eqb, leb, ltb, List, [], ◌∷◌, ◌++◌, Option, Some, None, refl, arith, sym, ap, ◌∙◌, append-nil}
-use Rattle.std.specs.Option.{option_map_or}
-use Rattle.std.proofs.lemmas.Bool.{eqb-true}
-use Rattle.std.proofs.lemmas.Bool.Decides.{nat_tests}
+use Rattle.collect.proofs.Common.{◌≡◌, ℕ, Bool, true, false, cond, eqb, leb, ltb, List, [], ◌∷◌, ◌++◌, Option, Some, None, refl, arith, sym, ap, ◌∙◌, append-nil, option_map_or, eqb-true, nat_tests, Back, Race, NoMemory, RaceAt, races_of, fails, race_on, better, has_better, kept_after, best, Collection, KeepsBest}
 use Rattle.std.proofs.lemmas.List.Sums.{fold-append}
-use Rattle.dag.specs.declared.back.Back.{Back}
-use Rattle.dag.specs.declared.back.Back.TheVariants.{Race, NoMemory}
-use Rattle.dag.specs.Accesses.{RaceAt}
-use Rattle.collect.specs.Collected.{races_of, fails, race_on, better, has_better, kept_after, best, Collection, KeepsBest}
 use Rattle.collect.proofs.Kept.{put, race_on-put}
 
 pub races_of-append : (g h : List Back) → races_of (g ++ h) ≡ races_of g ++ races_of h

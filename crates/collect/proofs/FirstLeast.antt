@@ -1,14 +1,7 @@
 -- What is kept of a location is the first least of the races that were handed back.
-use Rattle.std.proofs.Common.{◌≡◌, ◌≢◌, ℕ, ◌<◌, ◌≤◌, Bool, true, false, cond, eqb, ltb, List, [], ◌∷◌, ◌++◌, Option, Some, None, ◌⊎◌, inl, inr, Contains, fold, refl, arith, sym, ap, ◌∙◌, subst, append_assoc, append-nil}
-use Rattle.std.specs.List.{AllByRecursion}
-use Rattle.std.specs.Option.{option_map_or}
-use Rattle.std.proofs.lemmas.Bool.{eqb-true, eqb-false, ltb-true, ltb-false}
-use Rattle.dag.specs.declared.back.Back.{Back}
-use Rattle.dag.specs.Accesses.{RaceAt}
-use Rattle.dag.proofs.Once.{In, In_from, Contains_from}
-use Rattle.collect.specs.Collected.{races_of, race_on, better, kept_after, best, IsFirstLeast, AreFirstLeast, IsCollected}
+use Rattle.collect.proofs.Common.{◌≡◌, ◌≢◌, ℕ, ◌<◌, ◌≤◌, Bool, true, false, cond, eqb, ltb, List, [], ◌∷◌, ◌++◌, Option, Some, None, ◌⊎◌, inl, inr, Contains, fold, refl, arith, sym, ap, ◌∙◌, subst, append_assoc, append-nil, AllByRecursion, option_map_or, eqb-true, eqb-false, ltb-true, ltb-false, Back, RaceAt, In, In_from, Contains_from, NoneOn, races_of, race_on, better, kept_after, best, IsFirstLeast, AreFirstLeast, IsCollected}
 use Rattle.collect.proofs.Ascending.{Ascends, Ascends-from_increasing}
-use Rattle.collect.proofs.Sorted.{NoneOn, race_on-here, race_on-past}
+use Rattle.collect.proofs.Sorted.{race_on-here, race_on-past}
 
 -- what is said of the races before the first least one, and of those after it
 abbrev pub Later : RaceAt → RaceAt → Type 0
@@ -41,7 +34,7 @@ push_first l seen r e n = record {
   before = seen;
   after = [];
   came = refl;
-  first = all_map (λ s. s.location ≢ l) (Later r) (λ s f g. absurd (f (g ∙ e))) seen n;
+  first = all_map (λ s. l ≢ s.location) (Later r) (λ s f g. absurd (f (sym (g ∙ e)))) seen n;
   least = tt;
 }
 
@@ -77,7 +70,7 @@ kept_better l seen k r false t e f h = (f, push_later seen k r (λ g. ltb-false 
 
 kept_step : (l : ℕ) (seen : List RaceAt) (o : Option RaceAt) (r : RaceAt) (b : Bool) → eqb r.location l ≡ b → KeptOf l seen o → KeptOf l (seen ++ r ∷ []) (cond b (Some (option_map_or (λ k. better k r) o r)) o)
 kept_step l seen None r true e h = let here = eqb-true r.location l e in (here, push_first l seen r here h)
-kept_step l seen None r false e h = all_round (λ s. s.location ≢ l) seen [] r h (eqb-false r.location l e) tt
+kept_step l seen None r false e h = all_round (λ s. l ≢ s.location) seen [] r h (λ q. eqb-false r.location l e (sym q)) tt
 kept_step l seen (Some k) r true e h = kept_better l seen k r (ltb r.second.place k.second.place) refl (eqb-true r.location l e) h.0 h.1
 kept_step l seen (Some k) r false e h = (h.0, push_later seen k r (λ g. absurd (eqb-false r.location l e (g ∙ h.0))) h.1)
 
@@ -115,7 +108,7 @@ one_least rs r s e a b = elim (in_order a.before b.before a.after b.after r s (s
 ]
 
 kept_is : (rs : List RaceAt) (r : RaceAt) (o : Option RaceAt) → KeptOf r.location rs o → IsFirstLeast rs r → o ≡ Some r
-kept_is rs r None n h = absurd (all_in (λ s. s.location ≢ r.location) rs r n (subst (In r) (sym h.came) (in_round h.before h.after r)) refl)
+kept_is rs r None n h = absurd (all_in (λ s. r.location ≢ s.location) rs r n (subst (In r) (sym h.came) (in_round h.before h.after r)) refl)
 kept_is rs r (Some k) n h = ap Some (one_least rs k r n.0 n.1 h)
 
 -- ---- the races of a report

@@ -1,12 +1,5 @@
 -- What stands in front of bytes.
-use Rattle.std.proofs.Common.{◌≡◌, ℕ, suc, ◌<◌, ◌^◌, Bool, true, false, List, [], ◌∷◌, ◌++◌, length, get_or, take, drop, decimal, arith, refl, sym, ap, ◌∙◌, subst, take-append-drop, drop-cons}
-use Rattle.std.specs.Prelude.{codes, Option, Some, None, IfSome, IfNone, MatchOption, IsTrue}
-use Rattle.std.proofs.lemmas.List.{length-append, length-take, get_or-take}
-use Rattle.dag.specs.declared.records.Access.{Access}
-use Rattle.dag.specs.Accesses.{RaceAt, IsRaceShape}
-use Rattle.trace.specs.Text.{newline}
-use Rattle.collect.specs.Reports.{IsEntry}
-use Rattle.collect.specs.ReportText.{space, access_text, race_line}
+use Rattle.collect.proofs.Common.{◌≡◌, ℕ, suc, ◌<◌, ◌^◌, Bool, true, false, List, [], ◌∷◌, ◌++◌, length, get_or, take, drop, decimal, arith, refl, sym, ap, ◌∙◌, subst, take-append-drop, drop-cons, codes, IfSome, IfNone, MatchOption, IsTrue, length-take, get_or-take, Access, RaceAt, IsRaceShape, newline, IsEntry, space, access_text, race_line, Option, Some, None, length-append}
 use Rattle.collect.proofs.Unique.{HasNo, same_parts, HasNo-decimal, same_number, same_spelled, race_line-parts, after_race, after_location, after_first}
 
 get_or-middle : (xs : List ℕ) (s : ℕ) (more : List ℕ) → get_or (xs ++ s ∷ more) (length xs) 0 ≡ s

@@ -1,18 +1,8 @@
 -- Races put into an ascending list, each in the place of an earlier one on its location.
-use Rattle.std.proofs.Common.{◌≡◌, ℕ, ◌<◌, Bool, true, false, cond, eqb, List, [], ◌∷◌, Some, map, Result, Ok, Err, OnErr, refl, arith, sym, ap, ◌∙◌, subst}
-use Rattle.std.specs.BTreeMap.{insert_entry, is_at}
-use Rattle.std.specs.Cmp.{ranked}
-use Rattle.std.specs.List.{AllByRecursion}
+use Rattle.collect.proofs.Common.{◌≡◌, ℕ, ◌<◌, Bool, true, false, cond, eqb, List, [], ◌∷◌, Some, map, Result, Ok, Err, OnErr, refl, arith, sym, ap, ◌∙◌, subst, insert_entry, is_at, ranked, AllByRecursion, nat_cmp, match_ordering, is_eq, MatchOrdering, Less, Equal, Greater, eqb-true, nat_tests, RaceAt, race_on, IsEntry, IsReportList}
 use Rattle.std.specs.Map.{lookup}
-use Rattle.std.specs.Ordering.{nat_cmp, match_ordering, is_eq, MatchOrdering}
 use Rattle.std.specs.declared.cmp.Ordering.{Ordering}
-use Rattle.std.specs.declared.cmp.Ordering.TheVariants.{Less, Equal, Greater}
-use Rattle.std.proofs.lemmas.Bool.{eqb-true}
-use Rattle.std.proofs.lemmas.Bool.Decides.{nat_tests}
-use Rattle.dag.specs.Accesses.{RaceAt}
-use Rattle.collect.specs.Collected.{race_on}
 use Rattle.collect.specs.Keyed.{keyed, IsKeyed}
-use Rattle.collect.specs.Reports.{IsEntry, IsReportList}
 use Rattle.collect.proofs.Ascending.{Above, Above-trans, Ascends, Ascends-from_increasing, increasing_from_ascends}
 
 -- where it holds, it holds on an error

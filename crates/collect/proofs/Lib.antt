@@ -1,3 +1,4 @@
+pub mod Common
 pub mod Ascending
 pub mod Located
 pub mod Kept

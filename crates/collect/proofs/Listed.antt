@@ -1,14 +1,6 @@
 -- A report's list with one race more.
-use Rattle.std.proofs.Common.{◌≡◌, ℕ, suc, Bool, true, false, eqb, ltb, ◌+◌, ◌-◌, ◌<◌, ◌≤◌, ◌^◌, List, [], ◌∷◌, ◌++◌, Option, Some, None, length, arith, refl, sym, ap, ◌∙◌, subst, append_assoc, append-nil}
-use Rattle.std.specs.List.{AllByRecursion, slice_get}
-use Rattle.std.specs.Option.{option_map_or}
-use Rattle.std.proofs.lemmas.Bool.{eqb-true, ltb-true, ltb-false}
-use Rattle.std.proofs.lemmas.List.{length-append}
-use Rattle.dag.specs.Accesses.{RaceAt}
+use Rattle.collect.proofs.Common.{◌≡◌, ℕ, suc, Bool, true, false, eqb, ltb, ◌+◌, ◌-◌, ◌<◌, ◌≤◌, ◌^◌, List, [], ◌∷◌, ◌++◌, Option, Some, None, length, arith, refl, sym, ap, ◌∙◌, subst, append_assoc, append-nil, AllByRecursion, slice_get, option_map_or, eqb-true, ltb-true, ltb-false, RaceAt, IsEntry, IsReportList, may_follow, head, race_line, race_lines, rtext, IsFirstBadLine, no_head, no_race, no_end, OneList, length-append}
 use Rattle.dag.proofs.Lists.{all-push, all-front}
-use Rattle.collect.specs.Reports.{IsEntry, IsReportList, may_follow}
-use Rattle.collect.specs.ReportText.{head, race_line, race_lines, rtext}
-use Rattle.collect.specs.ReportFaults.{IsFirstBadLine, no_head, no_race, no_end, OneList}
 use Rattle.collect.proofs.Ascending.{Ascends, Ascends-from_increasing, increasing_from_ascends}
 use Rattle.collect.proofs.Unique.{same_line, same_head, goes_on}
 

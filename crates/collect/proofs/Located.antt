@@ -1,12 +1,5 @@
 -- Races by their numbers in a part, of which those in front are at their locations already.
-use Rattle.std.proofs.Common.{◌≡◌, ℕ, zero, suc, ◌<◌, ◌≤◌, ◌^◌, ◌*◌, List, [], ◌∷◌, length, map, set, get_or, refl, ap, arith}
-use Rattle.std.specs.List.{AllByRecursion}
-use Rattle.std.proofs.Math.Nat.{mul-lt-mul_of_pos_right}
-use Rattle.dag.specs.declared.part.Part.{Part}
-use Rattle.dag.specs.Accesses.{RaceAt}
-use Rattle.dag.specs.Parts.{location_at}
-use Rattle.collect.specs.Reports.{IsEntry, IsReportList}
-use Rattle.collect.specs.Located.{located_at, HaveLocations}
+use Rattle.collect.proofs.Common.{◌≡◌, ℕ, zero, suc, ◌<◌, ◌≤◌, ◌^◌, ◌*◌, List, [], ◌∷◌, length, map, set, get_or, refl, ap, arith, AllByRecursion, mul-lt-mul_of_pos_right, Part, RaceAt, location_at, IsEntry, IsReportList, located_at, HaveLocations}
 use Rattle.collect.proofs.Ascending.{Above, Ascends, Ascends-from_increasing, increasing_from_ascends}
 
 -- the first so many races are at their locations
@@ -14,11 +7,6 @@ abbrev pub partly : Part → ℕ → List RaceAt → List RaceAt
 partly part zero rs = rs
 partly part (suc k) [] = []
 partly part (suc k) (r ∷ rs) = located_at part r ∷ partly part k rs
-
-pub partly-length : (part : Part) (k : ℕ) (rs : List RaceAt) → length (partly part k rs) ≡ length rs
-partly-length part zero rs = refl
-partly-length part (suc k) [] = refl
-partly-length part (suc k) (r ∷ rs) = ap suc (partly-length part k rs)
 
 pub partly-all : (part : Part) (k : ℕ) (rs : List RaceAt) → length rs ≤ k → partly part k rs ≡ map (located_at part) rs
 partly-all part zero [] h = refl

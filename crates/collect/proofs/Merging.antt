@@ -1,19 +1,9 @@
 -- Reports that are merged: one race a location, whatever the order.
-use Rattle.std.proofs.Common.{◌≡◌, ◌≢◌, ℕ, ◌≤◌, ◌%◌, Bool, true, false, cond, eqb, List, [], ◌∷◌, ◌++◌, Option, Some, None, ◌⊎◌, inl, inr, map, refl, arith, sym, ap, ◌∙◌, subst}
-use Rattle.std.specs.List.{AllByRecursion, filter}
-use Rattle.std.proofs.Math.Nat.{mod-lt}
-use Rattle.std.proofs.lemmas.Bool.{eq-eqb}
-use Rattle.dag.specs.declared.back.Back.{Back}
-use Rattle.dag.specs.declared.back.Back.TheVariants.{Race}
-use Rattle.dag.specs.declared.part.Part.{Part}
-use Rattle.dag.specs.Accesses.{RaceAt}
+use Rattle.collect.proofs.Common.{◌≡◌, ◌≢◌, ℕ, ◌≤◌, ◌%◌, Bool, true, false, cond, eqb, List, [], ◌∷◌, ◌++◌, Option, Some, None, ◌⊎◌, inl, inr, map, refl, arith, sym, ap, ◌∙◌, subst, AllByRecursion, filter, mod-lt, eq-eqb, Back, Race, Part, RaceAt, races_of_part, In, In_from, Contains_from, AreApart, races_of, race_on, best, IsFirstLeast, IsCollected}
 use Rattle.dag.specs.Races.{IsReport}
-use Rattle.dag.specs.Parts.{races_of_part}
-use Rattle.dag.proofs.Once.{In, In_from, Contains_from}
-use Rattle.collect.specs.Collected.{races_of, race_on, best, IsFirstLeast, IsCollected}
 use Rattle.collect.specs.Merged.{backs_of_reports, reports_of_parts, PartsMakeWhole, PartsMakeTrace, MergesWithItself, OrderIsFree}
 use Rattle.collect.proofs.Ascending.{Ascends, Ascends-from_increasing}
-use Rattle.collect.proofs.Sorted.{NoneOn-above, same_races, AreApart, best-apart}
+use Rattle.collect.proofs.Sorted.{NoneOn-above, same_races, best-apart}
 use Rattle.collect.proofs.FirstLeast.{Later, NoSooner, all_round, all_map, all_in, in_round, KeptOf, kept_best, race_on_in}
 
 -- ---- what stands in lists
@@ -103,8 +93,8 @@ is_in rs k h = subst (In k) (sym h.came) (in_round h.before h.after k)
 kept_agree : (l : ℕ) (rs ss : List RaceAt) (o p : Option RaceAt) → ((r : RaceAt) → In r rs → In r ss) → ((r : RaceAt) → In r ss → In r rs) → AreDistinct rs
     → KeptOf l rs o → KeptOf l ss p → o ≡ p
 kept_agree l rs ss None None f g d h k = refl
-kept_agree l rs ss None (Some s) f g d h k = absurd (all_in (λ t. t.location ≢ l) rs s h (g s (is_in ss s k.1)) k.0)
-kept_agree l rs ss (Some r) None f g d h k = absurd (all_in (λ t. t.location ≢ l) ss r k (f r (is_in rs r h.1)) h.0)
+kept_agree l rs ss None (Some s) f g d h k = absurd (all_in (λ t. l ≢ t.location) rs s h (g s (is_in ss s k.1)) (sym k.0))
+kept_agree l rs ss (Some r) None f g d h k = absurd (all_in (λ t. l ≢ t.location) ss r k (f r (is_in rs r h.1)) (sym h.0))
 kept_agree l rs ss (Some r) (Some s) f g d h k =
     let e : r.location ≡ s.location = h.0 ∙ sym k.0 in
     let a = least_in rs r s h.1 (g s (is_in ss s k.1)) (sym e) in

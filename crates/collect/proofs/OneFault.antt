@@ -1,9 +1,5 @@
 -- Bytes have one first faulty line at most, and the text of a report has none.
-use Rattle.std.proofs.Common.{◌≡◌, ℕ, ◌<◌, ◌^◌, List, [], ◌∷◌, ◌++◌, length, arith, refl, sym, ap, ◌∙◌, subst, append_assoc, append-nil}
-use Rattle.dag.specs.Accesses.{RaceAt}
-use Rattle.collect.specs.Reports.{IsReportList}
-use Rattle.collect.specs.ReportText.{head, race_line, race_lines, rtext}
-use Rattle.collect.specs.ReportFaults.{no_head, no_race, no_end, OneFault, NoFault}
+use Rattle.collect.proofs.Common.{◌≡◌, ℕ, ◌<◌, ◌^◌, List, [], ◌∷◌, ◌++◌, length, arith, refl, sym, ap, ◌∙◌, subst, append_assoc, append-nil, RaceAt, IsReportList, head, race_line, race_lines, rtext, no_head, no_race, no_end, OneFault, NoFault}
 use Rattle.collect.proofs.Unique.{same_head, goes_on}
 use Rattle.collect.proofs.Listed.{IsReportList-front, no_fault}
 

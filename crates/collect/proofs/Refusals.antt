@@ -1,13 +1,8 @@
 -- Why a report is refused, and that a source that holds one is refused for want of memory alone.
-use Rattle.std.proofs.Common.{◌≡◌, ℕ, ◌≤◌, List, ◌++◌, length, Option, None, Some, refl, sym, ap, ◌∙◌, arith, subst, append-nil, length-append}
-use Rattle.std.specs.Io.KnownBytes.{Consumes, IsAtEnd}
-use Rattle.dag.specs.Accesses.{RaceAt}
-use Rattle.trace.specs.Devices.{Change, Gave}
-use Rattle.collect.specs.ReportText.{rtext}
+use Rattle.collect.proofs.Common.{◌≡◌, ℕ, ◌≤◌, List, ◌++◌, length, Option, None, Some, refl, sym, ap, ◌∙◌, arith, subst, append-nil, length-append, Consumes, IsAtEnd, RaceAt, Change, Gave, rtext, Read, TooLarge, Bad, HoldsReport, IsCause, IsRefusal}
 use Rattle.collect.proofs.Listed.{no_report}
 use Rattle.collect.specs.declared.bounded.ReportRefusal.{ReportRefusal}
-use Rattle.collect.specs.declared.bounded.ReportRefusal.TheVariants.{Read, TooLarge, Bad, NoMemory}
-use Rattle.collect.specs.ReportBytes.{HoldsReport, IsCause, IsRefusal}
+use Rattle.collect.specs.declared.bounded.ReportRefusal.TheVariants.{NoMemory}
 
 consumed_within : (xs : List ℕ) (after : Option (List ℕ)) (came : List ℕ) → Consumes (Some xs) after came → length came ≤ length xs
 consumed_within xs None came p = absurd p

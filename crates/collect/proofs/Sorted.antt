@@ -1,12 +1,5 @@
 -- A list of races with one race a location, sorted by location.
-use Rattle.std.proofs.Common.{◌≡◌, ◌≢◌, ℕ, ◌<◌, Bool, true, false, cond, eqb, ltb, List, [], ◌∷◌, Option, Some, None, fold, refl, arith, sym, ap, ◌∙◌, subst}
-use Rattle.std.specs.List.{AllByRecursion}
-use Rattle.std.specs.Option.{option_map_or}
-use Rattle.std.proofs.lemmas.Bool.{eqb-true, eq-eqb, ltb-true, ltb-false}
-use Rattle.std.proofs.lemmas.Bool.Decides.{nat_tests}
-use Rattle.dag.specs.declared.back.Back.{Back}
-use Rattle.dag.specs.Accesses.{RaceAt}
-use Rattle.collect.specs.Collected.{races_of, race_on, better, kept_after, best, IsCollected}
+use Rattle.collect.proofs.Common.{◌≡◌, ◌≢◌, ℕ, ◌<◌, Bool, true, false, cond, eqb, ltb, List, [], ◌∷◌, Option, Some, None, fold, refl, arith, sym, ap, ◌∙◌, subst, option_map_or, eqb-true, eq-eqb, ltb-true, ltb-false, nat_tests, Back, RaceAt, NoneOn, AreApart, races_of, race_on, better, kept_after, best, IsCollected}
 use Rattle.collect.proofs.Ascending.{Above, Above-trans, Ascends, Ascends-from_increasing}
 use Rattle.collect.proofs.Kept.{cond_swap}
 
@@ -21,12 +14,8 @@ apart-eqb a b h = grind (arith, nat_tests)
 pub race_on-here : (r : RaceAt) (rs : List RaceAt) → race_on r.location (r ∷ rs) ≡ Some r
 race_on-here r rs = ap (λ b. cond b (Some r) (race_on r.location rs)) (eqb-refl r.location)
 
-pub race_on-past : (l : ℕ) (r : RaceAt) (rs : List RaceAt) → r.location ≢ l → race_on l (r ∷ rs) ≡ race_on l rs
-race_on-past l r rs h = ap (λ b. cond b (Some r) (race_on l rs)) (apart-eqb r.location l h)
-
--- no race of the list is on l
-abbrev pub NoneOn : ℕ → List RaceAt → Type 0
-NoneOn l rs = AllByRecursion (λ r. r.location ≢ l) rs
+pub race_on-past : (l : ℕ) (r : RaceAt) (rs : List RaceAt) → l ≢ r.location → race_on l (r ∷ rs) ≡ race_on l rs
+race_on-past l r rs h = ap (λ b. cond b (Some r) (race_on l rs)) (apart-eqb r.location l (λ e. h (sym e)))
 
 pub race_on-none : (l : ℕ) (rs : List RaceAt) → NoneOn l rs → race_on l rs ≡ None
 race_on-none l [] h = refl
@@ -82,15 +71,10 @@ same_races (r ∷ rs) (s ∷ ss) a b h =
 
 -- ---- of one race a location that race is the best
 
--- no two races of the list are on one location
-abbrev pub AreApart : List RaceAt → Type 0
-AreApart [] = Unit {0}
-AreApart (r ∷ rs) = NoneOn r.location rs × AreApart rs
-
 kept-none_on : (l : ℕ) (o : Option RaceAt) (rs : List RaceAt) → NoneOn l rs → fold (kept_after l) o rs ≡ o
 kept-none_on l o [] h = refl
 kept-none_on l o (r ∷ rs) h =
-    let past : kept_after l o r ≡ o = ap (λ b. cond b (Some (option_map_or (λ k. better k r) o r)) o) (apart-eqb r.location l h.0) in
+    let past : kept_after l o r ≡ o = ap (λ b. cond b (Some (option_map_or (λ k. better k r) o r)) o) (apart-eqb r.location l (λ e. h.0 (sym e))) in
     ap (λ p. fold (kept_after l) p rs) past ∙ kept-none_on l o rs h.1
 
 best-at : (l : ℕ) (r : RaceAt) (rs : List RaceAt) (b : Bool) → eqb r.location l ≡ b → NoneOn r.location rs → best l rs ≡ race_on l rs → fold (kept_after l) (cond b (Some r) None) rs ≡ cond b (Some r) (race_on l rs)
@@ -127,11 +111,11 @@ module _ (put_in : RaceAt → List RaceAt → List RaceAt) (by_location : List R
   Ascends-put_in r [] n a = subst Ascends (sym (put_in-nil r)) (tt, tt)
   Ascends-put_in r (s ∷ rs) n a = subst Ascends (sym (put_in-cons r s rs)) (Ascends-put_at r s rs (ltb r.location s.location) refl n a (Ascends-put_in r rs n.1 a.1))
 
-  NoneOn-put_at : (l : ℕ) (r s : RaceAt) (rs more : List RaceAt) (b : Bool) → r.location ≢ l → NoneOn l (s ∷ rs) → NoneOn l more → NoneOn l (cond b (r ∷ s ∷ rs) (s ∷ more))
+  NoneOn-put_at : (l : ℕ) (r s : RaceAt) (rs more : List RaceAt) (b : Bool) → l ≢ r.location → NoneOn l (s ∷ rs) → NoneOn l more → NoneOn l (cond b (r ∷ s ∷ rs) (s ∷ more))
   NoneOn-put_at l r s rs more true p a m = (p, a)
   NoneOn-put_at l r s rs more false p a m = (a.0, m)
 
-  NoneOn-put_in : (l : ℕ) (r : RaceAt) (rs : List RaceAt) → r.location ≢ l → NoneOn l rs → NoneOn l (put_in r rs)
+  NoneOn-put_in : (l : ℕ) (r : RaceAt) (rs : List RaceAt) → l ≢ r.location → NoneOn l rs → NoneOn l (put_in r rs)
   NoneOn-put_in l r [] p a = subst (NoneOn l) (sym (put_in-nil r)) (p, tt)
   NoneOn-put_in l r (s ∷ rs) p a = subst (NoneOn l) (sym (put_in-cons r s rs)) (NoneOn-put_at l r s rs (put_in r rs) (ltb r.location s.location) p a (NoneOn-put_in l r rs p a.1))
 
@@ -152,7 +136,7 @@ module _ (put_in : RaceAt → List RaceAt → List RaceAt) (by_location : List R
   race_on-put_in : (l : ℕ) (r : RaceAt) (rs : List RaceAt) → NoneOn r.location rs → race_on l (put_in r rs) ≡ race_on l (r ∷ rs)
   race_on-put_in l r [] n = ap (race_on l) (put_in-nil r)
   race_on-put_in l r (s ∷ rs) n =
-      ap (race_on l) (put_in-cons r s rs) ∙ race_on-put_at l r s rs (ltb r.location s.location) (λ e. n.0 (sym e)) (race_on-put_in l r rs n.1)
+      ap (race_on l) (put_in-cons r s rs) ∙ race_on-put_at l r s rs (ltb r.location s.location) n.0 (race_on-put_in l r rs n.1)
 
   pub race_on-by_location : (l : ℕ) (rs : List RaceAt) → AreApart rs → race_on l (by_location rs) ≡ race_on l rs
   race_on-by_location l [] h = ap (race_on l) by_location-nil

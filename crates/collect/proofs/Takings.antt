@@ -1,9 +1,5 @@
 -- What a sink took in several calls, one after the other.
-use Rattle.std.proofs.Common.{◌≡◌, ℕ, ◌+◌, ◌<◌, List, [], ◌++◌, length, take, get_or, Result, Ok, Err, ◌∙◌, subst, append-nil}
-use Rattle.std.specs.List.{flat_map}
-use Rattle.std.proofs.KnownBytes.{Appends-trans, Appends-kept}
-use Rattle.trace.specs.Devices.{Device, Change, ◌⇝◌}
-use Rattle.trace.specs.Writers.{IsUntouched, Took, TookFront, WasGiven, Puts}
+use Rattle.collect.proofs.Common.{◌≡◌, ℕ, ◌+◌, ◌<◌, List, [], ◌++◌, length, take, get_or, Result, Ok, Err, ◌∙◌, subst, append-nil, flat_map, Appends-trans, Appends-kept, Device, Change, ◌⇝◌, IsUntouched, Took, TookFront, WasGiven, Puts}
 use Rattle.trace.proofs.Endings.{failed_since}
 use Rattle.collect.proofs.Written.{AppendsFront-more, AppendsFront-after, Appends-line, AppendsFront-line}
 

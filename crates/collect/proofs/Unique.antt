@@ -1,20 +1,11 @@
 -- One text of a report belongs to one list.
-use Rattle.std.proofs.Common.{◌≡◌, ◌≢◌, ℕ, ◌<◌, ◌≤◌, ◌^◌, List, [], ◌∷◌, ◌++◌, length, decimal, arith, refl, sym, ap, ◌∙◌, append_assoc}
-use Rattle.std.specs.Prelude.{codes}
+use Rattle.collect.proofs.Common.{◌≡◌, ◌≢◌, ℕ, ◌<◌, ◌≤◌, ◌^◌, List, [], ◌∷◌, ◌++◌, length, decimal, arith, refl, sym, ap, ◌∙◌, append_assoc, codes, AllByRecursion, digits_decimal, digits_value-decimal, Access, RaceAt, newline, same_access, same_race, IsEntry, space, word, access_text, head, race_line, race_lines}
 use Rattle.std.specs.Int.{IsInRange}
-use Rattle.std.specs.List.{AllByRecursion}
 use Rattle.std.specs.Str.Parse.{AllDigits, digits_value}
-use Rattle.std.proofs.lemmas.Fmt.{digits_decimal, digits_value-decimal}
 use Rattle.std.proofs.lemmas.Str.Parse.{digit_from_value}
 use Rattle.dag.specs.declared.records.Kind.{Kind}
 use Rattle.dag.specs.declared.records.Kind.TheVariants.{Read, Write}
-use Rattle.dag.specs.declared.records.Access.{Access}
-use Rattle.dag.specs.Accesses.{RaceAt}
-use Rattle.trace.specs.Text.{newline}
 use Rattle.trace.proofs.Decimals.{decimal_numerals}
-use Rattle.dag.proofs.Once.{same_access, same_race}
-use Rattle.collect.specs.Reports.{IsEntry}
-use Rattle.collect.specs.ReportText.{space, word, access_text, head, race_line, race_lines}
 
 -- ---- what stands in front of the first stop
 

@@ -1,12 +1,6 @@
 -- Lines that are written one after another.
-use Rattle.std.proofs.Common.{◌≡◌, ℕ, ◌+◌, ◌<◌, ◌≤◌, ◌^◌, List, [], ◌∷◌, ◌++◌, Option, length, take, drop, get_or, decimal, arith, sym, ap, ◌∙◌, subst, append_assoc, append-nil, take-append-drop}
-use Rattle.std.specs.Io.KnownBytes.{Appends}
-use Rattle.std.specs.List.{flat_map}
-use Rattle.std.proofs.KnownBytes.{Appends-trans}
-use Rattle.std.proofs.lemmas.Fmt.{length-decimal-le}
+use Rattle.collect.proofs.Common.{◌≡◌, ℕ, ◌+◌, ◌<◌, ◌≤◌, ◌^◌, List, [], ◌∷◌, ◌++◌, Option, length, take, drop, get_or, decimal, arith, sym, ap, ◌∙◌, subst, append_assoc, append-nil, take-append-drop, Appends, flat_map, Appends-trans, length-decimal-le, take_more, AppendsFront}
 use Rattle.std.proofs.lemmas.Grind.{flat_map-append}
-use Rattle.std.proofs.lemmas.List.{take_more}
-use Rattle.trace.specs.Writers.{AppendsFront}
 
 -- a place has at most 15 digits
 pub length-decimal-place : (n : ℕ) → n ≤ 2 ^ 48 → length (decimal n) ≤ 15

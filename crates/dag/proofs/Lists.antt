@@ -1,6 +1,5 @@
 -- Lists: the element at an index, what holds of all elements, and what is contained.
-use Rattle.std.proofs.Common.{◌≡◌, ℕ, zero, suc, ◌<◌, List, [], ◌∷◌, ◌++◌, length, slice_get, Some, Contains, refl, arith}
-use Rattle.std.specs.List.{AllByRecursion}
+use Rattle.dag.proofs.Common.{◌≡◌, ℕ, zero, suc, ◌<◌, List, [], ◌∷◌, ◌++◌, length, slice_get, Some, Contains, refl, arith, AllByRecursion}
 
 pub element_at : {A : Type 0} (xs : List A) (k : ℕ) → k < length xs → (x : A) × (slice_get xs k ≡ Some x)
 element_at [] k l = absurd (omega arith)

@@ -1,13 +1,6 @@
 -- Two accesses are parallel exactly where their meeting procedure has them in one block: the first in a
 -- child that it spawned, and no sync of its own from there to the second one's stand.
-use Rattle.std.proofs.Common.{◌≡◌, ℕ, zero, suc, ◌+◌, ◌<◌, ◌≤◌, ◌↔◌, Bool, true, false, ◌&&◌, ltb, eqb, List, Option, Some, None, ◌⊎◌, inl, inr, refl, sym, ◌∙◌, subst, ap, arith}
-use Rattle.std.proofs.lemmas.Bool.{cases_lt, cases_eq, cases_order, and_parts, lt-ltb, eq-eqb, eqb-true, both_ways}
-use Rattle.dag.specs.declared.records.Record.{Record}
-use Rattle.dag.specs.declared.records.Record.TheVariants.{Spawn, Call, Return, Sync, Read, Write}
-use Rattle.dag.specs.Traces.{at, depth, IsPlace, IsWellNested}
-use Rattle.dag.specs.Dag.{JoinsAt, IsParallel}
-use Rattle.dag.specs.Races.{IsAccessPlace}
-use Rattle.dag.specs.Meeting.{level, Opens, Holds, IsMeeting, IsChild, IsStand, itself, in_child, is_sync, one_if, block, InOneBlock, ExactlyOne}
+use Rattle.dag.proofs.Common.{◌≡◌, ℕ, zero, suc, ◌+◌, ◌<◌, ◌≤◌, ◌↔◌, Bool, true, false, ◌&&◌, ltb, eqb, List, Option, Some, None, ◌⊎◌, inl, inr, refl, sym, ◌∙◌, subst, ap, arith, cases_lt, cases_eq, cases_order, and_parts, lt-ltb, eq-eqb, eqb-true, both_ways, Record, Spawn, Call, Return, Sync, Read, Write, at, depth, IsPlace, IsWellNested, JoinsAt, IsParallel, IsAccessPlace, level, Opens, Holds, IsMeeting, IsChild, IsStand, itself, in_child, is_sync, one_if, block, InOneBlock, ExactlyOne}
 use Rattle.dag.proofs.World.{returns, Pending, last_below, LastBelow, up, rises_opens, falls, leaves_by, spawned-returns}
 use Rattle.dag.proofs.Traced.{traced, shape_at, opener_of, opener-is, call-is_call, shape-opens, shape-return, shape-joins, shape-spawned, returns-shape, joins-shape, spawned_shape}
 use Rattle.dag.proofs.Paths.{pending-parallel, parallel-pending, access-place, access-not_joins}

@@ -1,14 +1,19 @@
 -- What is reported of a location is unique, and so is the report of a trace.
-use Rattle.std.proofs.Common.{◌≡◌, ℕ, zero, suc, ◌<◌, ◌≤◌, List, [], ◌∷◌, map, Option, Some, ◌⊎◌, Contains, inl, inr, ⊎_elim, refl, sym, ap, subst, ◌∙◌, arith, add-one}
+use Rattle.dag.proofs.Common.{◌≡◌, ◌≢◌, ℕ, zero, suc, ◌<◌, ◌≤◌, List, [], ◌∷◌, map, Option, Some, ◌⊎◌, Contains, inl, inr, ⊎_elim, refl, sym, ap, subst, ◌∙◌, arith, add-one, AllByRecursion, cases_order, Record, Kind, IsAccess, IsSecond, IsLastWrite, IsKeptReader, IsFirst, IsReported, IsReport, last_write, kept_reader, IsRead, IsWrite}
 use Rattle.std.specs.List.Sorted.{IsStrictlyIncreasing}
-use Rattle.std.proofs.lemmas.Bool.{cases_order}
-use Rattle.dag.specs.declared.records.Record.{Record}
-use Rattle.dag.specs.declared.records.Kind.{Kind}
 use Rattle.dag.specs.declared.records.Kind.TheVariants.{Read, Write}
 use Rattle.dag.specs.declared.records.Access.{Access}
 use Rattle.dag.specs.Accesses.{RaceAt}
-use Rattle.dag.specs.Races.{IsAccess, IsSecond, IsLastWrite, IsKeptReader, IsFirst, IsReported, IsReport, last_write, kept_reader}
 use Rattle.dag.proofs.Readers.{kept_once, after_zero}
+
+-- no race of the list is of l
+abbrev pub NoneOn : ℕ → List RaceAt → Type 0
+NoneOn l rs = AllByRecursion (λ r. l ≢ r.location) rs
+
+-- no two races of the list are of one location
+abbrev pub AreApart : List RaceAt → Type 0
+AreApart [] = Unit {0}
+AreApart (r ∷ rs) = NoneOn r.location rs × AreApart rs
 
 pub second_once : (w : List Record) (l i j : ℕ) → IsSecond w l i → IsSecond w l j → i ≡ j
 second_once w l i j a b =
@@ -35,6 +40,9 @@ kind_once w l i Read Read a b = refl
 kind_once w l i Read Write a b = absurd (cc)
 kind_once w l i Write Read a b = absurd (cc)
 kind_once w l i Write Write a b = refl
+
+pub read_no_write : (w : List Record) (l j : ℕ) → IsRead w l j → IsWrite w l j → ⊥
+read_no_write w l j a b = absurd (cc)
 
 pub same_access : (a b : Access) → a.kind ≡ b.kind → a.place ≡ b.place → a ≡ b
 same_access a b e f = λ i. record { kind = e i; place = f i }

@@ -1,13 +1,6 @@
 -- A walk back from a place of a well nested trace: it finds the record that opened the place's procedure, over
 -- procedures that were opened and returned before the place.
-use Rattle.std.proofs.Common.{◌≡◌, ℕ, zero, suc, ◌+◌, ◌-◌, ◌<◌, ◌≤◌, List, length, get_or, slice_get, Option, Some, ◌⊎◌, inl, inr, sym, ◌∙◌, subst, ap, arith}
-use Rattle.std.proofs.lemmas.Bool.{cases_eq}
-use Rattle.std.proofs.lemmas.Option.{slice_get-get_or}
-use Rattle.dag.specs.declared.records.Record.{Record}
-use Rattle.dag.specs.declared.records.Record.TheVariants.{Spawn, Call, Return, Sync, Read, Write}
-use Rattle.dag.specs.Traces.{at, depth, IsWellNested}
-use Rattle.dag.specs.Dag.{IsOpenerOf}
-use Rattle.dag.specs.Meeting.{Opens}
+use Rattle.dag.proofs.Common.{◌≡◌, ℕ, zero, suc, ◌+◌, ◌-◌, ◌<◌, ◌≤◌, List, length, get_or, slice_get, Option, Some, ◌⊎◌, inl, inr, sym, ◌∙◌, subst, ap, arith, cases_eq, slice_get-get_or, Record, Spawn, Call, Return, Sync, Read, Write, at, depth, IsWellNested, IsOpenerOf, Opens}
 use Rattle.dag.proofs.World.{Step, leaves_by}
 use Rattle.dag.proofs.Traced.{traced, shape_of, is_call, opener_of, step_at, returns-shape}
 

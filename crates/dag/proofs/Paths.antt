@@ -1,12 +1,7 @@
 -- Paths of a well nested trace: where one leads and where two places are parallel, that parallel
 -- accesses are so through others, and the one way out of a procedure.
-use Rattle.std.proofs.Common.{◌≡◌, ℕ, zero, suc, ◌<◌, ◌≤◌, List, Some, ◌⊎◌, inl, inr, sym, arith}
-use Rattle.dag.specs.declared.records.Record.{Record}
-use Rattle.dag.specs.Traces.{at, IsPlace, IsWellNested}
-use Rattle.dag.specs.Dag.{JoinsAt, Leads, IsParallel, IsInPart, OneWayOut}
-use Rattle.dag.specs.Races.{IsAccessPlace, access}
+use Rattle.dag.proofs.Common.{◌≡◌, ℕ, zero, suc, ◌<◌, ◌≤◌, List, Some, ◌⊎◌, inl, inr, sym, arith, Record, at, IsPlace, IsWellNested, JoinsAt, Leads, IsParallel, IsInPart, OneWayOut, IsAccessPlace, access, slice_get_within}
 use Rattle.dag.specs.declared.records.Kind.TheVariants.{Read, Write}
-use Rattle.std.proofs.lemmas.Option.{slice_get_within}
 use Rattle.dag.proofs.World.{Pending, Within, decided, sound, not-reach, pending_through, pending_after, way_out, way_from}
 use Rattle.dag.proofs.Traced.{traced, returns-shape, leads-reach, reach-leads, leads-le}
 

@@ -1,14 +1,8 @@
 -- The kept reader of a location: there is one and only one, and it is parallel to an access where any
 -- read before it is. From this the rules see the first race of a location.
-use Rattle.std.proofs.Common.{◌≡◌, ℕ, zero, suc, ◌<◌, ◌≤◌, List, Option, Some, None, ◌⊎◌, inl, inr, ⊎_elim, refl, sym, ap, subst, ◌∙◌, arith}
-use Rattle.std.proofs.lemmas.Bool.{cases_eq, cases_lt, cases_order}
-use Rattle.dag.specs.declared.records.Record.{Record}
+use Rattle.dag.proofs.Common.{◌≡◌, ℕ, zero, suc, ◌<◌, ◌≤◌, List, Option, Some, None, ◌⊎◌, inl, inr, ⊎_elim, refl, sym, ap, subst, ◌∙◌, arith, cases_eq, cases_lt, cases_order, Record, Kind, at, IsWellNested, Leads, IsParallel, IsAccess, IsAccessPlace, IsRead, IsWrite, IsRace, IsSecond, IsLastWrite, IsKeptReader, IsReported, nothing_yet, no_read, first_read, replaces, stays, last_write, kept_reader}
 use Rattle.dag.specs.declared.records.Record.TheVariants as records
-use Rattle.dag.specs.declared.records.Kind.{Kind}
 use Rattle.dag.specs.declared.records.Kind.TheVariants.{Read, Write}
-use Rattle.dag.specs.Traces.{at, IsWellNested}
-use Rattle.dag.specs.Dag.{Leads, IsParallel}
-use Rattle.dag.specs.Races.{IsAccess, IsAccessPlace, IsRead, IsWrite, IsRace, IsSecond, IsLastWrite, IsKeptReader, IsReported, nothing_yet, no_read, first_read, replaces, stays, last_write, kept_reader}
 use Rattle.dag.proofs.Paths.{IsPlace-at, leads_or_parallel, parallel_through, parallel_after}
 
 pub IsAccessPlace-at : (w : List Record) (l i : ℕ) (k : Kind) → IsAccess w l i k → IsAccessPlace w i

@@ -1,14 +1,8 @@
 -- Laws of shares.
-use Rattle.std.proofs.Common.{◌≡◌, ℕ, ◌<◌, ◌%◌, true, cond, List, [], ◌∷◌, ◌++◌, refl, sym, arith}
-use Rattle.std.proofs.lemmas.Bool.{eq-eqb, eqb-true}
+use Rattle.dag.proofs.Common.{◌≡◌, ℕ, ◌<◌, ◌%◌, true, cond, List, [], ◌∷◌, ◌++◌, refl, sym, arith, eq-eqb, eqb-true, Record, Spawn, Call, Return, Sync, Read, Write, Kind, access, ExactlyOne}
 use Rattle.std.proofs.lemmas.List.Elements.{filter-append}
-use Rattle.dag.specs.declared.records.Record.{Record}
-use Rattle.dag.specs.declared.records.Record.TheVariants.{Spawn, Call, Return, Sync, Read, Write}
-use Rattle.dag.specs.declared.records.Kind.{Kind}
 use Rattle.dag.specs.declared.records.Kind.TheVariants as kinds
 use Rattle.dag.specs.declared.records.Placed.{Placed}
-use Rattle.dag.specs.Races.{access}
-use Rattle.dag.specs.Meeting.{ExactlyOne}
 use Rattle.dag.specs.Shares.{goes, goes_placed, share}
 
 pub share-append : (k n : ℕ) (u v : List Placed) → share k n (u ++ v) ≡ share k n u ++ share k n v

@@ -1,7 +1,6 @@
 -- Where a place stands once t records are done, at the level d of an active procedure: kept parallel by
 -- a child that returned and wasn't waited for, or serial to a place of that level.
-use Rattle.std.proofs.Common.{◌≡◌, ℕ, suc, ◌<◌, ◌≤◌, true, false, inl, inr, refl, sym, subst, ap, arith}
-use Rattle.std.proofs.lemmas.Bool.{cases_lt, cases_eq}
+use Rattle.dag.proofs.Common.{◌≡◌, ℕ, suc, ◌<◌, ◌≤◌, true, false, inl, inr, refl, sym, subst, ap, arith, cases_lt, cases_eq}
 use Rattle.dag.proofs.World.{World, spawned_return, called_return, joins, returns, next, comes_back, sound, reach-return, Pending, leaves_by, spawned-returns, spawned-joins, pending-shorter, all_more}
 
 pub record Kept (v : World) (t d i : ℕ) : Type 0 where

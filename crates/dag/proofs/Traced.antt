@@ -1,15 +1,8 @@
 -- A well nested trace is a world: its counts give the step law of depth, and its edges and paths are
 -- those of that world.
-use Rattle.std.proofs.Common.{◌≡◌, ◌≢◌, ℕ, zero, suc, ◌+◌, ◌-◌, ◌<◌, ◌≤◌, Bool, true, false, if◌then◌else◌, eqb, List, [], ◌∷◌, length, take, sum_by, get_or, slice_get, Option, Some, None, ◌⊎◌, inl, inr, refl, sym, ◌∙◌, subst, ap, arith, add-one}
-use Rattle.std.proofs.lemmas.Bool.{cases_Bool, cases_eq, eq-eqb, ne_eqb, both_ways}
+use Rattle.dag.proofs.Common.{◌≡◌, ◌≢◌, ℕ, zero, suc, ◌+◌, ◌-◌, ◌<◌, ◌≤◌, Bool, true, false, if◌then◌else◌, eqb, List, [], ◌∷◌, length, take, sum_by, get_or, slice_get, Option, Some, None, ◌⊎◌, inl, inr, refl, sym, ◌∙◌, subst, ap, arith, add-one, cases_Bool, cases_eq, eq-eqb, ne_eqb, both_ways, slice_get_within, get_or_from_slice_get, Record, Spawn, Call, Return, Sync, Read, Write, at, depth, opens, closes, IsPlace, IsWellNested, JoinsAt, IsOpenerOf, IsPath, Leads, end_of, Opens}
 use Rattle.std.proofs.lemmas.List.Sums.{sum_by_more}
-use Rattle.std.proofs.lemmas.Option.{slice_get_within, get_or_from_slice_get}
-use Rattle.dag.specs.declared.records.Record.{Record}
-use Rattle.dag.specs.declared.records.Record.TheVariants.{Spawn, Call, Return, Sync, Read, Write}
-use Rattle.dag.specs.Traces.{at, depth, opens, closes, IsPlace, IsWellNested}
 use Rattle.dag.specs.Dag as dag
-use Rattle.dag.specs.Dag.{JoinsAt, IsOpenerOf, IsPath, Leads, end_of}
-use Rattle.dag.specs.Meeting.{Opens}
 use Rattle.dag.proofs.World.{World, Shape, access, sync, spawn, call, spawned_return, called_return, Step, Reach, here, next, joins, returns, reach_all, LastBelow, last_below, up, rises_opens}
 use Rattle.dag.proofs.World as world
 use Rattle.dag.proofs.Lists.{element_at}

@@ -1,7 +1,6 @@
 -- Worlds: places with a depth and a shape, of which nothing more is asked than how a shape moves the
 -- depth. Between two places i < j no path leads exactly where some return is pending from i to j.
-use Rattle.std.proofs.Common.{◌≡◌, ℕ, zero, suc, ◌<◌, ◌≤◌, Bool, true, false, ◌⊎◌, inl, inr, refl, sym, ◌∙◌, subst, ap, arith}
-use Rattle.std.proofs.lemmas.Bool.{cases_lt, cases_eq, cases_Bool}
+use Rattle.dag.proofs.Common.{◌≡◌, ℕ, zero, suc, ◌<◌, ◌≤◌, Bool, true, false, ◌⊎◌, inl, inr, refl, sym, ◌∙◌, subst, ap, arith, cases_lt, cases_eq, cases_Bool}
 
 -- what the record at a place does
 pub data Shape : Type 0 where

@@ -16,7 +16,6 @@ use Rattle.collect.specs.Collected.{Collection, KeepsBest, IsCollected, races_of
 use Rattle.collect.proofs.Sorted.{collected_is_sorted}
 use Rattle.detect.specs.Gathered.{all_given, AreAtHomeFrom, AreAtHome, Gathers}
 use Rattle.detect.proofs.Gathered.{on_lane, best_of_lane, other_location}
-use Rattle.detect_plain.proofs.Detected.{apart}
 
 home-filter : (n k : ℕ) (rs : List RaceAt) → AllByRecursion (λ r. r.location % n ≡ k) (filter (of_shard k n) rs)
 home-filter n k [] = tt
@@ -60,6 +59,6 @@ verdict_of_shares n lists w c rs some len each gathers good collected =
     let home : AreAtHome lists = subst P (sym len) (home-shares n 0 lists (found w) (λ k lt. let e : k ≡ 0 + k = omega arith in portions k (omega (arith, lt, len)) ∙ ap (λ m. filter (of_shard m n) (found w)) e)) in
     let holds = gathers.holds good home in
     collected_is_sorted put_in by_location (λ r. refl) (λ r s ss. refl) refl (λ r ss. refl) (all_given lists) rs (found w) (collected (all_given lists) holds)
-    (apart (found w) (found_from-apart state_at_start w))
+    (found_from-apart state_at_start w)
     (λ l. best_of_lane l lists home ∙ ap (λ m. best l (races_of (on_lane lists (l % m)))) len
     ∙ ap (best l) (portions (l % n) (mod-lt l some)) ∙ best_filtered l n None (found w))

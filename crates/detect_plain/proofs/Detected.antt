@@ -1,32 +1,16 @@
 -- Runs over the records of a trace: one more record, and the races found.
-use Rattle.std.proofs.Common.{◌≡◌, ◌≢◌, ℕ, ◌+◌, List, [], ◌∷◌, ◌++◌, length, refl, sym, ◌∙◌, ap, subst, arith, length-append, Option, Some, None, option_to_list}
-use Rattle.std.proofs.lemmas.List.{append-nil}
-use Rattle.std.specs.List.{AllByRecursion}
+use Rattle.detect_plain.proofs.Common.{◌≡◌, ℕ, ◌+◌, List, [], ◌∷◌, ◌++◌, length, refl, sym, ◌∙◌, ap, subst, arith, length-append, Option, Some, None, option_to_list, Record, Placed, Part, RaceAt, placed, records_of, Cell, state_at_start, found, put_in, by_location, found_from-apart, DetectorState, HasDetected, HasFollowed, HasSeenTrace, HasSeenPart, placed-next, append-nil}
 use Rattle.dag.specs.declared.back.Back.{Back}
 use Rattle.dag.specs.declared.back.Back.TheVariants as backs
-use Rattle.dag.specs.declared.records.Record.{Record}
-use Rattle.dag.specs.declared.records.Placed.{Placed}
-use Rattle.dag.specs.declared.part.Part.{Part}
-use Rattle.dag.specs.Accesses.{RaceAt}
-use Rattle.dag.specs.Traces.{placed}
-use Rattle.dag.specs.Parts.{records_of}
 use Rattle.trace.specs.Watching.{ComesAfter}
-use Rattle.bags.specs.Procedures.{Procedures, at_start}
-use Rattle.shadow.specs.Cells.{Cell, untouched}
-use Rattle.shadow.specs.Shadow.{HaveSeen, kept_of}
-use Rattle.shadow.specs.Found.{state_at_start, found, put_in, by_location}
-use Rattle.shadow.proofs.FoundLaws.{Apart, found_from-apart}
+use Rattle.bags.specs.Procedures.{Procedures}
+use Rattle.shadow.specs.Shadow.{HaveSeen}
 use Rattle.collect.specs.Collected.{Collection, KeepsBest, IsCollected, best}
 use Rattle.collect.proofs.Best.{races_of-append, fails-push_race}
-use Rattle.collect.proofs.Sorted.{AreApart, NoneOn, collected_is_sorted}
-use Rattle.detect_plain.specs.Detected.{DetectorState, HasDetected, HasFollowed, HasSeenTrace, HasSeenPart}
-use Rattle.verdict.proofs.Reports.{placed-next}
+use Rattle.collect.proofs.Sorted.{collected_is_sorted}
 use Rattle.detect_plain.proofs.PartRecords.{records_of-none, records_of-some}
 
 -- ---- before the first record, and one more
-
-pub detected_nothing : (bags : Procedures) (cells : ℕ → Cell) (kept : Collection) → bags ≡ at_start → ((l : ℕ) → cells l ≡ untouched) → KeepsBest [] kept → HasDetected [] bags cells kept
-detected_nothing bags cells kept bags_are cells_are keeps = record { bags_are = bags_are; cells_are = cells_are; given = []; holds = keeps; none_failed = refl; races = refl }
 
 pub seen_before : (u : List Placed) (d : DetectorState) → HasFollowed u d → HaveSeen u d.bags d.shadow
 seen_before u d h = record { bags_are = h.bags_are; kept_are = h.cells_are }
@@ -53,9 +37,6 @@ followed_race u p o r d e some h seen taken is = record {
   none_failed = fails-push_race h.given r ∙ h.none_failed;
   races = races_of-append h.given (backs.Race r ∷ []) ∙ ap (λ x. x ++ r ∷ []) h.races ∙ ap (λ q. found u ++ option_to_list q) (sym some) ∙ sym is;
 }
-
-pub read_none : (d : DetectorState) → d.bags ≡ at_start → ((l : ℕ) → kept_of d.shadow l ≡ untouched) → KeepsBest [] d.kept → d.last_place ≡ 0 → HasSeenTrace [] d
-read_none d bags_are kept_are keeps first = record { detected = detected_nothing d.bags (kept_of d.shadow) d.kept bags_are kept_are keeps; last = omega (arith, first) }
 
 pub read_next : (u : List Record) (p : Placed) (d e : DetectorState) → ComesAfter u p → HasSeenTrace u d → ((v : List Placed) → HasFollowed v d → HasFollowed (v ++ p ∷ []) e) → e.last_place ≡ p.place → HasSeenTrace (u ++ p.what ∷ []) e
 read_next u p d e after h follows last = record {
@@ -86,16 +67,7 @@ part_followed part u p q o d e some is place after follows last h =
 
 -- ---- the report
 
--- the races found are on locations apart
-none_on : (l : ℕ) (rs : List RaceAt) → AllByRecursion (λ q. l ≢ q.location) rs → NoneOn l rs
-none_on l [] h = tt
-none_on l (q ∷ rs) h = (λ e. h.0 (sym e), none_on l rs h.1)
-
-pub apart : (rs : List RaceAt) → Apart rs → AreApart rs
-apart [] h = tt
-apart (r ∷ rs) h = (none_on r.location rs h.0, apart rs h.1)
-
 -- the report is the list of the races found, by location
 pub reported : (u : List Placed) (bags : Procedures) (cells : ℕ → Cell) (kept : Collection) (rs : List RaceAt) → HasDetected u bags cells kept → ((g : List Back) → KeepsBest g kept → IsCollected g rs) → rs ≡ by_location (found u)
 reported u bags cells kept rs h collected =
-    collected_is_sorted put_in by_location (λ r. refl) (λ r s ss. refl) refl (λ r ss. refl) h.given rs (found u) (collected h.given h.holds) (apart (found u) (found_from-apart state_at_start u)) (λ l. ap (best l) h.races)
+    collected_is_sorted put_in by_location (λ r. refl) (λ r s ss. refl) refl (λ r ss. refl) h.given rs (found u) (collected h.given h.holds) (found_from-apart state_at_start u) (λ l. ap (best l) h.races)

@@ -1,18 +1,9 @@
 -- The races found in a trace whose locations fit 64 bits.
-use Rattle.std.proofs.Common.{◌≡◌, ℕ, suc, ◌<◌, ◌^◌, Bool, List, [], ◌∷◌, ◌++◌, Option, Some, None, option_to_list, refl, sym, subst}
-use Rattle.std.specs.List.{AllByRecursion}
-use Rattle.dag.specs.declared.records.Record.{Record}
+use Rattle.detect_plain.proofs.Common.{◌≡◌, ℕ, suc, ◌<◌, ◌^◌, Bool, List, [], ◌∷◌, ◌++◌, Option, Some, None, option_to_list, refl, sym, subst, AllByRecursion, Record, Version, RaceAt, placed_from, Fits, AllFit, race_with, State, state_at_start, after_record, race_of, found_from, found, race_with-is}
 use Rattle.dag.specs.declared.records.Record.TheVariants as records
 use Rattle.dag.specs.declared.records.Kind.{Kind}
 use Rattle.dag.specs.declared.records.Kind.TheVariants.{Read, Write}
-use Rattle.dag.specs.declared.records.Version.{Version}
 use Rattle.dag.specs.declared.records.Access.{Access}
-use Rattle.dag.specs.Accesses.{RaceAt}
-use Rattle.dag.specs.Traces.{placed_from}
-use Rattle.trace.specs.Text.{Fits, AllFit}
-use Rattle.shadow.specs.Cells.{race_with}
-use Rattle.shadow.specs.Found.{State, state_at_start, after_record, race_of, found_from, found}
-use Rattle.shadow.proofs.FoundLaws.{race_with-is}
 
 -- the location of the race fits 64 bits
 abbrev pub HasFit : RaceAt → Type 0

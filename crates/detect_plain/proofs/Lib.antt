@@ -1,3 +1,4 @@
+pub mod Common
 pub mod PartRecords
 pub mod Detected
 pub mod Fitting

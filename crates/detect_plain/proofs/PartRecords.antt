@@ -1,14 +1,8 @@
 -- The records of a part: one record more, and the whole.
-use Rattle.std.proofs.Common.{◌≡◌, ℕ, ◌/◌, ◌%◌, true, List, [], ◌∷◌, ◌++◌, map, get_or, Option, Some, None, option_to_list, ⊎_elim, refl, sym, ap, ap₂, ◌∙◌, arith, append-nil}
+use Rattle.detect_plain.proofs.Common.{◌≡◌, ℕ, ◌/◌, ◌%◌, true, List, [], ◌∷◌, ◌++◌, map, get_or, Option, Some, None, option_to_list, ⊎_elim, refl, sym, ap, ap₂, ◌∙◌, arith, append-nil, map-append, Record, Placed, Part, RaceAt, numbered, numbered_at, records_of, races_of_part}
 use Rattle.std.proofs.lemmas.Bool.{cases_Bool, cond-true, cond-false, eq-eqb}
-use Rattle.std.proofs.lemmas.List.{map-append}
-use Rattle.dag.specs.declared.records.Record.{Record}
 use Rattle.dag.specs.declared.records.Record.TheVariants.{Spawn, Call, Return, Sync, Read, Write}
-use Rattle.dag.specs.declared.records.Placed.{Placed}
-use Rattle.dag.specs.declared.part.Part.{Part}
-use Rattle.dag.specs.Accesses.{RaceAt}
 use Rattle.dag.specs.Shares.{goes, goes_placed, share}
-use Rattle.dag.specs.Parts.{numbered, numbered_at, records_of, races_of_part}
 use Rattle.dag.proofs.ShareLemmas.{share-append}
 
 -- one record more, of which the part has this

@@ -1,17 +1,6 @@
 -- The report of a part, from the races found in its records by their numbers.
-use Rattle.std.proofs.Common.{◌≡◌, ℕ, filter, List, [], ◌∷◌, map, sym, ap, subst, ◌∙◌}
-use Rattle.std.specs.List.{AllByRecursion}
-use Rattle.dag.specs.declared.records.Record.{Record}
-use Rattle.dag.specs.declared.records.Version.{Version}
-use Rattle.dag.specs.declared.part.Part.{Part}
-use Rattle.dag.specs.Accesses.{RaceAt}
-use Rattle.dag.specs.Traces.{placed, IsWellNested}
-use Rattle.trace.specs.Text.{AllFit}
-use Rattle.dag.specs.Parts.{records_of, races_of_part}
-use Rattle.shadow.specs.Found.{state_at_start, found, by_location, verdict}
-use Rattle.shadow.proofs.FoundLaws.{found_from-apart}
+use Rattle.detect_plain.proofs.Common.{◌≡◌, ℕ, filter, List, [], ◌∷◌, map, sym, ap, subst, ◌∙◌, AllByRecursion, Record, Version, Part, RaceAt, placed, IsWellNested, AllFit, records_of, races_of_part, state_at_start, found, by_location, verdict, found_from-apart, found-part}
 use Rattle.shadow.proofs.Listed.{All-by_location}
-use Rattle.shadow.proofs.Parted.{found-part}
 use Rattle.shadow.proofs.PartListed.{located-by_location, filter-by_location}
 use Rattle.collect.specs.Located.{located_at, HaveLocations}
 use Rattle.detect_plain.proofs.Fitting.{HasFit, fit-found}

@@ -1,19 +1,6 @@
 -- Accesses to none of the units of a block, and to one.
-use Rattle.std.proofs.Common.{◌≡◌, ◌≢◌, ℕ, zero, suc, ◌+◌, ◌^◌, ◌<◌, ◌≤◌, true, false, List, [], ◌∷◌, ◌++◌, cond, nat_eq, refl, sym, ap, ◌∙◌, ⊎_elim, arith, append-nil}
-use Rattle.std.specs.Int.{bit_at}
-use Rattle.std.specs.Int.RustNames.{count_ones}
-use Rattle.std.proofs.lemmas.Nat.Bits.{bit_at-pow_same, bit_at-pow_other}
-use Rattle.std.proofs.lemmas.Nat.{pow_below}
-use Rattle.std.proofs.lemmas.Bool.{cases_lt}
-use Rattle.dag.specs.declared.records.Kind.{Kind}
-use Rattle.dag.specs.declared.records.Placed.{Placed}
-use Rattle.dag.specs.Races.{access}
-use Rattle.blocks.specs.Masks.{has, units_before}
-use Rattle.blocks.specs.Pages.{location_of}
-use Rattle.blocks.specs.Blocks.{block_of, unit_of, first_of}
-use Rattle.online.specs.Accesses.{access_of, accesses, accesses_up_to}
-use Rattle.blocks.proofs.Bits.{has_zero}
-use Rattle.blocks.proofs.Counts.{all_units}
+use Rattle.online.proofs.Common.{◌≡◌, ◌≢◌, ℕ, zero, suc, ◌+◌, ◌^◌, ◌<◌, ◌≤◌, true, false, List, [], ◌∷◌, ◌++◌, cond, nat_eq, refl, sym, ap, ◌∙◌, ⊎_elim, arith, append-nil, bit_at, count_ones, bit_at-pow_same, bit_at-pow_other, pow_below, cases_lt, Kind, Placed, access, has, units_before, location_of, block_of, unit_of, first_of, access_of, accesses, has_zero, all_units}
+use Rattle.online.specs.Accesses.{accesses_up_to}
 
 none_up_to : (first : ℕ) (kind : Kind) (place n : ℕ) → accesses_up_to first kind place 0 n ≡ []
 unfolding accesses_up_to

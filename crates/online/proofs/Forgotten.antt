@@ -1,19 +1,10 @@
 -- Odd locations of a block that are forgotten one after another.
-use Rattle.std.proofs.Common.{◌≡◌, ◌≢◌, ℕ, ◌+◌, ◌*◌, ◌%◌, ◌<◌, ◌≤◌, Bool, true, false, ◌&&◌, cond, refl, sym, ap, ◌∙◌, ⊎_elim, arith}
-use Rattle.std.proofs.lemmas.Bool.{cases_lt, eq-eqb, ne_eqb}
-use Rattle.std.proofs.lemmas.Bool.Decides.{eqb_tells}
-use Rattle.shadow.specs.Cells.{Cell, untouched}
-use Rattle.shadow.specs.Found.{with_cell}
-use Rattle.blocks.specs.Masks.{has}
-use Rattle.blocks.specs.Blocks.{block_of, unit_of, is_unit}
+use Rattle.online.proofs.Common.{◌≡◌, ◌≢◌, ℕ, ◌+◌, ◌*◌, ◌%◌, ◌<◌, ◌≤◌, Bool, true, false, ◌&&◌, cond, refl, sym, ap, ◌∙◌, ⊎_elim, arith, cases_lt, eq-eqb, ne_eqb, eqb_tells, Cell, untouched, with_cell, has, block_of, unit_of, is_unit}
 
 -- of these units those before unit n are forgotten, and all else is kept as it was
 pub record AreForgotten (first units n : ℕ) (old new : ℕ → Cell) : Type 0 where
   pub done : (l : ℕ) → block_of l ≡ block_of first → unit_of l < n → has units (unit_of l) ≡ true → new l ≡ untouched
   pub left : (l : ℕ) → (block_of l ≡ block_of first → unit_of l < n → has units (unit_of l) ≡ true → ⊥) → new l ≡ old l
-
-pub forgets_none : (first units : ℕ) (old : ℕ → Cell) → AreForgotten first units 0 old old
-forgets_none first units old = record { done = λ l p k h. absurd (omega (arith, k)); left = λ l f. refl }
 
 pub forgets_same : (first units n : ℕ) (old new : ℕ → Cell) → has units n ≡ false → AreForgotten first units n old new → AreForgotten first units (n + 1) old new
 forgets_same first units n old new e a = record {

@@ -1,31 +1,9 @@
 -- What a detector has found, after more records.
-use Rattle.std.proofs.Common.{◌≡◌, ◌≢◌, ℕ, ◌%◌, ◌^◌, ◌<◌, ◌≤◌, ◌⊎◌, inl, inr, ⊎_elim, arith, cond, nat_eq, false, List, [], ◌∷◌, ◌++◌, map, refl, sym, ◌∙◌, ap, subst, Option, None, Some, Result, Ok, Err, OnOk, OnErr, IsErr}
-use Rattle.std.specs.Option.{option_to_list}
-use Rattle.std.proofs.lemmas.Bool.{cases_lt, eq-eqb, ne_eqb}
-use Rattle.std.proofs.lemmas.List.{append-nil, map-append}
-use Rattle.dag.specs.declared.back.Back.{Back}
-use Rattle.dag.specs.declared.back.Back.TheVariants.{Race, NoMemory}
-use Rattle.dag.specs.declared.records.Record.{Record}
+use Rattle.online.proofs.Common.{◌≡◌, ◌≢◌, ℕ, ◌%◌, ◌^◌, ◌<◌, ◌≤◌, ◌⊎◌, inl, inr, ⊎_elim, arith, cond, nat_eq, false, List, [], ◌∷◌, ◌++◌, map, refl, sym, ◌∙◌, ap, subst, Option, None, Some, Result, Ok, Err, OnOk, OnErr, IsErr, option_to_list, cases_lt, eq-eqb, ne_eqb, map-append, Back, Race, NoMemory, Record, Placed, Kind, access, RaceAt, Active, event, untouched, touched, race_at, Shadow, kept_of, with_cell, State, state_at_start, state_from, state_after, after_record, found, found_from, state_from-append, found_from-append, found-push, Collection, KeepsBest, races_of, fails, location_of, touched_at, Blocks, kept_in_blocks, block_of, unit_of, first_of, kept_after_units, races_in_block, accesses, named, placed_in_life, at_home, Online, kept_in_both, HasTakenPlaced, append-nil, races_of_same}
 use Rattle.dag.specs.declared.records.Record.TheVariants as records
-use Rattle.dag.specs.declared.records.Placed.{Placed}
-use Rattle.dag.specs.declared.records.Kind.{Kind}
 use Rattle.dag.specs.declared.records.Kind.TheVariants as kinds
-use Rattle.dag.specs.Races.{access}
-use Rattle.dag.specs.Accesses.{RaceAt}
-use Rattle.bags.specs.Procedures.{Active, event}
-use Rattle.shadow.specs.Cells.{untouched, touched, race_at}
-use Rattle.shadow.specs.Shadow.{Shadow, kept_of}
-use Rattle.shadow.specs.Found.{with_cell, State, state_at_start, state_from, state_after, after_record, found, found_from}
 use Rattle.shadow.specs.Found as rules
-use Rattle.shadow.proofs.FoundLaws.{state_from-append, found_from-append, found-push}
-use Rattle.collect.specs.Collected.{Collection, KeepsBest, races_of, fails}
 use Rattle.collect.proofs.Best.{races_of-append}
-use Rattle.blocks.specs.Pages.{location_of, touched_at}
-use Rattle.blocks.specs.Blocks.{Blocks, kept_in_blocks, block_of, unit_of, first_of, kept_after_units, races_in_block}
-use Rattle.blocks.proofs.Kept.{races_of_same}
-use Rattle.online.specs.Accesses.{accesses}
-use Rattle.online.specs.Lives.{named, placed_in_life, at_home}
-use Rattle.online.specs.Online.{Online, kept_in_both, HasTakenPlaced}
 use Rattle.online.proofs.Lived.{IsWithin, AreWithin, all_lived, race_lived}
 use Rattle.online.proofs.OneByOne.{seen_units, found_units, within_units, seen_one, found_one}
 

@@ -1,21 +1,7 @@
 -- Records of locations in their lives do to the state after earlier ones what the records of the locations do to what a
 -- detector keeps.
-use Rattle.std.proofs.Common.{◌≡◌, ◌≢◌, ℕ, ◌%◌, ◌^◌, ◌<◌, ⊎_elim, arith, cond, nat_eq, Bool, true, false, List, [], ◌∷◌, ◌++◌, map, refl, sym, ◌∙◌, ap, Option, None, Some}
-use Rattle.std.specs.Option.{option_to_list}
-use Rattle.std.specs.List.{AllByRecursion}
-use Rattle.std.proofs.lemmas.Bool.{ne_eqb, eq-eqb}
-use Rattle.std.proofs.lemmas.Bool.Decides.{eqb_tells}
-use Rattle.std.proofs.lemmas.List.{map-append}
-use Rattle.dag.specs.declared.records.Kind.{Kind}
-use Rattle.dag.specs.declared.records.Record.{Record}
-use Rattle.dag.specs.declared.records.Record.TheVariants.{Spawn, Call, Return, Sync, Read, Write}
-use Rattle.dag.specs.declared.records.Placed.{Placed}
-use Rattle.dag.specs.declared.records.Access.{Access}
-use Rattle.bags.specs.Procedures.{Procedures, event}
-use Rattle.shadow.specs.Cells.{Cell, untouched, touched, race_at, race_with, rival}
-use Rattle.shadow.specs.Found.{State, state_from, found_from, after_record, with_cell}
+use Rattle.online.proofs.Common.{◌≡◌, ◌≢◌, ℕ, ◌%◌, ◌^◌, ◌<◌, ⊎_elim, arith, cond, nat_eq, Bool, true, false, List, [], ◌∷◌, ◌++◌, map, refl, sym, ◌∙◌, ap, Option, None, Some, option_to_list, AllByRecursion, ne_eqb, eq-eqb, eqb_tells, map-append, Kind, Record, Spawn, Call, Return, Sync, Read, Write, Placed, Access, Procedures, event, Cell, untouched, touched, race_at, race_with, rival, State, state_from, found_from, after_record, with_cell, named, in_life, placed_in_life, at_home}
 use Rattle.shadow.specs.Found as rules
-use Rattle.online.specs.Lives.{named, in_life, placed_in_life, at_home}
 
 -- what is kept of a location in one state is what the other keeps of the location's present life
 pub record IsLived (lives : ℕ → ℕ) (s t : State) : Type 0 where

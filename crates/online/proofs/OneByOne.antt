@@ -1,22 +1,9 @@
 -- An access to units of a page is what accesses to its units one by one are.
-use Rattle.std.proofs.Common.{◌≡◌, ◌≢◌, ℕ, zero, suc, ◌+◌, ◌^◌, ◌<◌, ◌≤◌, Bool, true, false, List, [], ◌∷◌, ◌++◌, cond, nat_eq, refl, sym, ap, ◌∙◌, ⊎_elim, arith, append-nil, None}
-use Rattle.std.proofs.lemmas.Bool.{cases_lt, eq-eqb, ne_eqb}
-use Rattle.std.proofs.lemmas.Bool.Decides.{eqb_tells}
-use Rattle.std.specs.Option.{option_to_list}
-use Rattle.dag.specs.declared.records.Kind.{Kind}
+use Rattle.online.proofs.Common.{◌≡◌, ◌≢◌, ℕ, zero, suc, ◌+◌, ◌^◌, ◌<◌, ◌≤◌, Bool, true, false, List, [], ◌∷◌, ◌++◌, cond, nat_eq, refl, sym, ap, ◌∙◌, ⊎_elim, arith, append-nil, None, cases_lt, eq-eqb, ne_eqb, eqb_tells, option_to_list, Kind, Placed, RaceAt, access, Procedures, touched, race_at, State, state_from, found_from, after_record, with_cell, state_from-append, found_from-append, has, units_before, location_of, touched_at, block_of, unit_of, first_of, kept_after_units, races_in_block, accesses, location_page, location_unit}
+use Rattle.blocks.specs.Pages.{races_up_to}
+use Rattle.online.specs.Accesses.{accesses_up_to}
 use Rattle.dag.specs.declared.records.Kind.TheVariants.{Read, Write}
-use Rattle.dag.specs.declared.records.Placed.{Placed}
-use Rattle.dag.specs.Accesses.{RaceAt}
-use Rattle.dag.specs.Races.{access}
-use Rattle.bags.specs.Procedures.{Procedures}
-use Rattle.shadow.specs.Cells.{touched, race_at}
-use Rattle.shadow.specs.Found.{State, state_from, state_after, found_from, found, after_record, with_cell, state_at_start}
 use Rattle.shadow.specs.Found as rules
-use Rattle.shadow.proofs.FoundLaws.{state_from-append, found_from-append}
-use Rattle.blocks.specs.Masks.{has, units_before}
-use Rattle.blocks.specs.Pages.{location_of, touched_at, races_up_to}
-use Rattle.blocks.specs.Blocks.{block_of, unit_of, first_of, kept_after_units, races_in_block}
-use Rattle.online.specs.Accesses.{accesses, accesses_up_to}
 use Rattle.online.proofs.Lived.{IsWithin, AreWithin}
 
 -- what such accesses do to a state, up to a unit
@@ -36,12 +23,6 @@ run_none s page kind place units = record {
 }
 
 -- the location of a unit
-location_page : (page n : ℕ) → n < 64 → block_of (location_of (first_of page) n) ≡ page
-location_page page n h = omega (arith, h)
-
-location_unit : (page n : ℕ) → n < 64 → unit_of (location_of (first_of page) n) ≡ n
-location_unit page n h = omega (arith, h)
-
 its_location : (page n l : ℕ) → block_of l ≡ page → unit_of l ≡ n → l ≡ location_of (first_of page) n
 its_location page n l e f = omega (arith, e, f)
 

@@ -1,18 +1,5 @@
 -- Locations that begin a new life.
-use Rattle.std.proofs.Common.{◌≡◌, ◌≢◌, ℕ, ◌+◌, ◌*◌, ◌/◌, ◌%◌, ◌^◌, ◌<◌, Bool, true, false, ◌&&◌, List, length, cond, nat_eq, sym, ap, ◌∙◌, subst, ⊎_elim, arith}
-use Rattle.std.proofs.lemmas.Bool.{ne_eqb}
-use Rattle.dag.specs.declared.records.Record.{Record}
-use Rattle.dag.specs.declared.records.Placed.{Placed}
-use Rattle.dag.specs.Traces.{placed}
-use Rattle.bags.specs.Procedures.{Procedures}
-use Rattle.shadow.specs.Cells.{Cell, untouched}
-use Rattle.shadow.specs.Shadow.{Shadow, kept_of}
-use Rattle.shadow.specs.Found.{state_after}
-use Rattle.collect.specs.Collected.{KeepsBest}
-use Rattle.blocks.specs.Masks.{has}
-use Rattle.blocks.specs.Blocks.{Blocks, block_of, unit_of, is_unit, kept_in_blocks}
-use Rattle.online.specs.Lives.{named, lives_after}
-use Rattle.online.specs.Online.{Online, kept_in_both, HasTakenPlaced, IsRunning, IsAfter}
+use Rattle.online.proofs.Common.{◌≡◌, ◌≢◌, ℕ, ◌+◌, ◌*◌, ◌/◌, ◌%◌, ◌^◌, ◌<◌, Bool, true, false, ◌&&◌, List, length, cond, nat_eq, sym, ap, ◌∙◌, subst, ⊎_elim, arith, ne_eqb, Record, Placed, placed, Procedures, Cell, untouched, Shadow, kept_of, state_after, KeepsBest, has, Blocks, block_of, unit_of, is_unit, kept_in_blocks, named, lives_after, Online, kept_in_both, HasTakenPlaced, IsRunning, IsAfter}
 use Rattle.online.proofs.Found.{odd_cell, even_cell, parity}
 
 module _ (u : List Placed) (lives : ℕ → ℕ) (location units : ℕ) (d e : Online) (h : HasTakenPlaced u lives d) (bags : e.bags ≡ d.bags) (kept : e.kept ≡ d.kept)

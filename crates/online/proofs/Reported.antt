@@ -1,21 +1,6 @@
 -- The report of all lives, and that of a run in which each location has but one.
-use Rattle.std.proofs.Common.{◌≡◌, ◌≢◌, ◌↔◌, ℕ, zero, suc, ◌/◌, ◌%◌, ◌^◌, ◌<◌, ◌≤◌, Bool, true, false, List, [], ◌∷◌, ◌++◌, length, replicate, map, Option, Some, None, refl, sym, ap, subst, ◌∙◌, ⊎_elim, arith}
-use Rattle.std.specs.List.{AllByRecursion}
-use Rattle.std.specs.Option.{option_to_list}
-use Rattle.std.proofs.lemmas.List.{map-append}
+use Rattle.online.proofs.Common.{◌≡◌, ◌≢◌, ◌↔◌, ℕ, zero, suc, ◌/◌, ◌%◌, ◌^◌, ◌<◌, ◌≤◌, Bool, true, false, List, [], ◌∷◌, ◌++◌, length, replicate, map, Option, Some, None, refl, sym, ap, subst, ◌∙◌, ⊎_elim, arith, AllByRecursion, option_to_list, map-append, cases_lt, Back, Kind, Record, Spawn, Call, Return, Sync, Read, Write, Placed, Access, RaceAt, Cell, untouched, race_with, rival, State, state_at_start, state_after, after_record, race_of, found, found_from, put_in, by_location, verdict, found_from-apart, found-reported, KeepsBest, IsCollected, best, placed, placed_from, IsWellNested, named, first_lives, home, at_home, IsOfFirstLife, AreOfFirstLives, IsReportOfLives, HasRacyLife, IsRaceCount, Online, HasTakenPlaced}
 use Rattle.std.proofs.lemmas.List.Elements.{recursion_from_All}
-use Rattle.std.proofs.lemmas.Bool.{cases_lt}
-use Rattle.dag.specs.declared.back.Back.{Back}
-use Rattle.dag.specs.declared.records.Kind.{Kind}
-use Rattle.dag.specs.declared.records.Record.{Record}
-use Rattle.dag.specs.declared.records.Record.TheVariants.{Spawn, Call, Return, Sync, Read, Write}
-use Rattle.dag.specs.declared.records.Placed.{Placed}
-use Rattle.dag.specs.declared.records.Access.{Access}
-use Rattle.dag.specs.Accesses.{RaceAt}
-use Rattle.shadow.specs.Cells.{Cell, untouched, race_with, rival}
-use Rattle.shadow.specs.Found.{State, state_at_start, state_after, after_record, race_of, found, found_from, put_in, by_location, verdict}
-use Rattle.shadow.proofs.FoundLaws.{found_from-apart, found-reported}
-use Rattle.collect.specs.Collected.{KeepsBest, IsCollected, best}
 use Rattle.collect.specs.Reports.{IsReportList}
 use Rattle.collect.proofs.Sorted.{collected_is_sorted}
 use Rattle.collect.proofs.Ascending.{Ascends-from_increasing}
@@ -25,10 +10,6 @@ use Rattle.dag.proofs.Once.{In, In_from, Contains_from}
 use Rattle.shadow.proofs.Listed.{In-by_location, In-from_by_location}
 use Rattle.shadow.proofs.Headlines.{racy}
 use Rattle.verdict.specs.Racy.{HasLocation}
-use Rattle.dag.specs.Traces.{placed, placed_from, IsWellNested}
-use Rattle.detect_plain.proofs.Detected.{apart}
-use Rattle.online.specs.Lives.{named, first_lives, home, at_home, IsOfFirstLife, AreOfFirstLives, IsReportOfLives, HasRacyLife, IsRaceCount}
-use Rattle.online.specs.Online.{Online, HasTakenPlaced}
 
 pub reported_lives : (u : List Placed) (lives : ℕ → ℕ) (d : Online) (rs : List RaceAt) → HasTakenPlaced u lives d → ((g : List Back) → KeepsBest g d.kept → IsCollected g rs) → IsReportOfLives u rs
 reported_lives u lives d rs h collected =
@@ -56,7 +37,7 @@ at_home_all u d h (r ∷ rs) a =
 reported_home : (u : List Placed) (lives : ℕ → ℕ) (d : Online) (rs : List RaceAt) → HasTakenPlaced u lives d → map at_home (found u) ≡ found u → ((g : List Back) → KeepsBest g d.kept → IsCollected g rs) → rs ≡ by_location (found u)
 reported_home u lives d rs h same collected =
     let races = h.races ∙ same in
-    collected_is_sorted put_in by_location (λ r. refl) (λ r s ss. refl) refl (λ r ss. refl) h.given rs (found u) (collected h.given h.holds) (apart (found u) (found_from-apart state_at_start u)) (λ l. ap (best l) races)
+    collected_is_sorted put_in by_location (λ r. refl) (λ r s ss. refl) refl (λ r ss. refl) h.given rs (found u) (collected h.given h.holds) (found_from-apart state_at_start u) (λ l. ap (best l) races)
 
 pub reported_first : (u : List Placed) (d : Online) (rs : List RaceAt) → HasTakenPlaced u first_lives d → ((g : List Back) → KeepsBest g d.kept → IsCollected g rs) → rs ≡ by_location (found u)
 reported_first u d rs h = reported_home u first_lives d rs h (at_home_all u d h (found u) (found-reported state_at_start u))
@@ -107,7 +88,7 @@ module _ (u : List Record) (n d : ℕ) (rs : List RaceAt) (nested : IsWellNested
       go (best l (map at_home all)) refl (kept_best l (map at_home all)) y.0 inside (ap (λ q. q % 2 ^ 64) y.2 ∙ e)
     where
       go : (o : Option RaceAt) → best l (map at_home all) ≡ o → KeptOf l (map at_home all) o → (y : RaceAt) → In (at_home y) (map at_home all) → home y.location ≡ l → HasLocation rs l
-      go None b k y i q = absurd (all_in (λ s. s.location ≢ l) (map at_home all) (at_home y) k i q)
+      go None b k y i q = absurd (all_in (λ s. l ≢ s.location) (map at_home all) (at_home y) k i (sym q))
       go (Some s) b k y i q = (s, Contains_from rs s (in_race_on l rs s (h.best_on l ∙ b)), k.0)
 
   pub lives_racy : HasLocation rs l ↔ HasRacyLife u l

@@ -1,34 +1,10 @@
 -- How far a run has come after more records, and the records of a block at their places.
-use Rattle.std.proofs.Common.{◌≡◌, ◌↔◌, ℕ, zero, suc, ◌+◌, ◌<◌, ◌≤◌, ◌^◌, nat_eq, true, false, Bool, List, [], ◌∷◌, ◌++◌, cond, length, map, ◌⊎◌, inl, inr, ⊎_elim, refl, sym, ◌∙◌, ap, subst, arith, length-append}
-use Rattle.std.specs.Int.{bit_at}
-use Rattle.std.proofs.lemmas.Nat.Bits.{bit_at-lt}
-use Rattle.std.proofs.lemmas.Bool.{cases_Bool, eqb-true}
-use Rattle.std.proofs.lemmas.List.{append-nil, append_assoc, map-append}
+use Rattle.online.proofs.Common.{◌≡◌, ◌↔◌, ℕ, zero, suc, ◌+◌, ◌<◌, ◌≤◌, ◌^◌, nat_eq, true, false, Bool, List, [], ◌∷◌, ◌++◌, cond, length, map, ◌⊎◌, inl, inr, ⊎_elim, refl, sym, ◌∙◌, ap, subst, arith, length-append, bit_at, bit_at-lt, cases_Bool, eqb-true, append_assoc, map-append, count_ones, Kind, Record, Spawn, Call, Return, Sync, Read, Write, Placed, most_records, access, placed, depth, opens, closes, Procedures, Active, at_start, after_sync, after_return, untouched, State, state_after, after_record, state_after-push, KeepsBest, placed-next, has, units_before, location_of, block_of, first_of, access_of, accesses, even, block_records, all_units, in_life, placed_in_life, first_lives, Online, HasTakenPlaced, IsActiveCount, IsRunning, IsAfter, kept_in_both, append-nil}
+use Rattle.online.specs.Accesses.{accesses_up_to}
 use Rattle.std.proofs.lemmas.List.Sums.{sum_by-append}
-use Rattle.std.specs.Int.RustNames.{count_ones}
-use Rattle.dag.specs.declared.records.Kind.{Kind}
 use Rattle.dag.specs.declared.records.Kind.TheVariants as kinds
-use Rattle.dag.specs.declared.records.Record.{Record}
-use Rattle.dag.specs.declared.records.Record.TheVariants.{Spawn, Call, Return, Sync, Read, Write}
-use Rattle.dag.specs.declared.records.Placed.{Placed}
-use Rattle.dag.specs.Bounds.{most_records}
-use Rattle.dag.specs.Races.{access}
-use Rattle.dag.specs.Traces.{placed, depth, opens, closes}
 use Rattle.trace.specs.Faults.{HasEnded}
 use Rattle.trace.proofs.Places.{depth-next, ended_before, ended_by, ended_after}
-use Rattle.bags.specs.Procedures.{Procedures, Active, at_start, after_sync, after_return}
-use Rattle.shadow.specs.Cells.{untouched}
-use Rattle.shadow.specs.Found.{State, state_after, after_record}
-use Rattle.shadow.proofs.FoundLaws.{state_after-push}
-use Rattle.collect.specs.Collected.{KeepsBest}
-use Rattle.verdict.proofs.Reports.{placed-next}
-use Rattle.blocks.specs.Masks.{has, units_before}
-use Rattle.blocks.specs.Pages.{location_of}
-use Rattle.blocks.specs.Blocks.{block_of, first_of}
-use Rattle.online.specs.Accesses.{access_of, accesses, accesses_up_to, even, block_records}
-use Rattle.blocks.proofs.Counts.{all_units}
-use Rattle.online.specs.Lives.{in_life, placed_in_life, first_lives}
-use Rattle.online.specs.Online.{Online, HasTakenPlaced, IsActiveCount, IsRunning, IsAfter, kept_in_both}
 
 -- ---- how many procedures are active
 

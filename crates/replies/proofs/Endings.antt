@@ -1,19 +1,11 @@
 -- How an answer ends: with what was put and passed on, or with the line for a fault.
-use Rattle.std.proofs.Common.{◌≡◌, ℕ, ◌<◌, List, refl, sym, subst, inl, inr, arith}
-use Rattle.std.proofs.KnownBytes.{Keeps-refl}
-use Rattle.dag.specs.declared.records.Record.{Record}
+use Rattle.replies.proofs.Common.{◌≡◌, ℕ, ◌<◌, List, refl, sym, subst, inl, inr, arith, Keeps-refl, Record, Device, Change, ◌⇝◌, IsUntouched, WasGiven, IsWellNested, message, status_of, IsAnswered}
 use Rattle.trace.specs.declared.faults.Fault.{Fault}
-use Rattle.trace.specs.Devices.{Device, Change, ◌⇝◌}
-use Rattle.trace.specs.Writers.{IsUntouched, WasGiven}
-use Rattle.dag.specs.Traces.{IsWellNested}
 use Rattle.trace.specs.Endings.{OfTrace, ReadsWhole, IsRefused}
 use Rattle.trace.proofs.Feedings.{at_limits}
 use Rattle.audit.specs.declared.answers.Confirm.{Confirm}
 use Rattle.audit.specs.declared.answers.Confirm.TheVariants.{Yes, No}
-use Rattle.texts.specs.Messages.{message}
 use Rattle.texts.specs.Sinks.{EndsAnswer}
-use Rattle.replies.specs.Questions.{status_of}
-use Rattle.replies.specs.Answered.{IsAnswered}
 
 -- a device that nothing was done to
 pub untouched : (d : Device) → IsUntouched (d ⇝ d)

@@ -1,3 +1,4 @@
+pub mod Common
 pub mod Statuses
 pub mod Endings
 pub mod Named

@@ -1,25 +1,10 @@
 -- Reports on their way into a collector, and the one that is made of them.
-use Rattle.std.proofs.Common.{◌≡◌, ◌↔◌, ℕ, suc, ◌+◌, ◌<◌, ◌≤◌, List, [], ◌∷◌, ◌++◌, length, map, get_or, take, drop, Option, Result, String, string_bytes, refl, sym, ap, ◌∙◌, subst, arith, take-append-drop, drop-cons, length-take-le}
-use native.Mathlib.Decide.{dec_le}
+use Rattle.replies.proofs.Common.{◌≡◌, ℕ, suc, ◌+◌, ◌<◌, List, [], ◌∷◌, ◌++◌, length, map, get_or, take, drop, Option, Result, String, string_bytes, sym, ap, ◌∙◌, subst, arith, take-append-drop, drop-cons, length-take-le, RaceAt, ReportRefusal, Input, HasReadReport, IsRefusedReport, HaveReadReports, IsFirstRefused, HasTakenReport, HaveTaken}
 use Rattle.std.proofs.lemmas.List.{take_more, flat_map_more}
 use Rattle.dag.specs.declared.back.Back.{Back}
 use Rattle.dag.specs.declared.back.Back.TheVariants.{Race}
-use Rattle.dag.specs.Accesses.{RaceAt}
-use Rattle.collect.specs.declared.bounded.ReportRefusal.{ReportRefusal}
 use Rattle.collect.specs.Collected.{Collection, KeepsBest}
 use Rattle.collect.specs.Merged.{backs_of_reports}
-use Rattle.replies.specs.declared.input.Input.{Input}
-use Rattle.replies.specs.Merges.{report_status, HasReadReport, IsRefusedReport, HaveReadReports, IsFirstRefused}
-use Rattle.replies.specs.Merging.{HasTakenReport, HaveTaken}
-
--- the status that is 0 exactly for no race is that of the report
-pub is_report_status : (races : List RaceAt) (status : ℕ) → status < 2 → (status ≡ 0) ↔ (races ≡ []) → status ≡ report_status races
-is_report_status [] status low zero = zero.1 refl
-is_report_status (r ∷ rs) status low zero = go (dec_le status 0)
-  where
-    go : Dec (status ≤ 0) → status ≡ 1
-    go (yes least) = let none : r ∷ rs ≡ [] = zero.0 (omega arith) in absurd (cc)
-    go (no more) = omega arith
 
 module _ {F E : Type 0} (Gives : List ℕ → Result F E → Type 0) (known : Input F → Option (List ℕ)) {A : Type 0} where
   read_more : (names : List (String A)) (name : String A) (reports : List (List RaceAt)) (entries : List RaceAt) → HaveReadReports Gives known names reports → HasReadReport Gives known (string_bytes name) entries

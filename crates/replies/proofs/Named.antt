@@ -1,27 +1,15 @@
 -- How an answer ends of what names stand for.
-use Rattle.std.proofs.Common.{false, ◌≡◌, ℕ, List, [], Option, None, Result, string_bytes, refl, sym, ap, ◌∙◌, subst, inl, inr}
-use Rattle.std.specs.Prelude.{⊤, ◌==◌, if◌then◌else◌}
+use Rattle.replies.proofs.Common.{false, ◌≡◌, ℕ, List, [], Option, None, Result, string_bytes, refl, sym, ap, ◌∙◌, subst, inl, inr, ⊤, ◌==◌, if◌then◌else◌, reader_inner, reader_buffer, reader_capacity, reader_remaining, prepend_known-nil, Device, Change, ◌⇝◌, IsUntouched, WasGiven, depth_of, trace_name, refused_for, message, Answers, IsWant, IsAnswered, IsConfirmed, Input, StandsFor, CannotOpen, HasNotOpened, HasAnsweredOpened, HasConfirmedOpened}
 use Rattle.std.specs.declared.io.buffered.BufReader.{BufReader}
-use Rattle.std.specs.Io.Buffered.{reader_inner, reader_buffer, reader_capacity, reader_remaining}
-use Rattle.std.proofs.KnownBytes.{prepend_known-nil}
 use Rattle.std.specs.Io.KnownBytes.{prepend_known}
 use Rattle.trace.specs.declared.faults.Fault.TheVariants.{NoMemory, Read}
 use Rattle.dag.specs.Bounds.{most_records}
-use Rattle.trace.specs.Devices.{Device, Change, ◌⇝◌}
-use Rattle.trace.specs.Writers.{IsUntouched, WasGiven}
 use Rattle.trace.proofs.Endings.{refused_for_want}
 use Rattle.words.specs.declared.asking.Question.{Question}
 use Rattle.words.specs.declared.asking.Question.TheVariants as question
 use Rattle.words.specs.declared.asking.ConfirmWords.{ConfirmWords}
-use Rattle.words.specs.Asked.{depth_of, trace_name}
 use Rattle.collect.specs.declared.bounded.ReportRefusal.TheVariants as refusals
-use Rattle.collect.proofs.Refusals.{refused_for}
-use Rattle.texts.specs.Messages.{message}
-use Rattle.replies.specs.Questions.{Answers, IsWant}
-use Rattle.replies.specs.Answered.{IsAnswered, IsConfirmed}
-use Rattle.replies.specs.declared.input.Input.{Input}
-use Rattle.replies.specs.Inputs.{StandsFor, CannotOpen, HasNotOpened}
-use Rattle.replies.specs.Files.{untried, HasAnsweredOpened, HasConfirmedOpened}
+use Rattle.replies.specs.Files.{untried}
 use Rattle.replies.proofs.Endings.{refused, untouched}
 
 -- want of memory is a want of every reading

@@ -1,16 +1,8 @@
 -- What was answered of the files that one opening gives was answered of those that a more general one may give.
-use Rattle.std.proofs.Common.{ℕ, List, [], ◌∷◌, Option, Result, Ok, Err, String, string_bytes, inl, inr}
-use Rattle.dag.specs.Accesses.{RaceAt}
-use Rattle.trace.specs.Devices.{Change}
-use Rattle.collect.specs.declared.bounded.ReportRefusal.{ReportRefusal}
+use Rattle.replies.proofs.Common.{ℕ, List, [], ◌∷◌, Option, Result, Ok, Err, String, string_bytes, inl, inr, RaceAt, Change, ReportRefusal, trace_name, Input, IsOpened, StandsFor, CannotOpen, HasNotOpened, HasReadReport, HaveReadReports, IsRefusedReport, IsFirstRefused, IsAnsweredOf}
 use Rattle.words.specs.declared.asking.Asked.{Asked}
 use Rattle.words.specs.declared.asking.Asked.TheVariants as asked
-use Rattle.words.specs.Asked.{trace_name}
-use Rattle.replies.specs.declared.input.Input.{Input}
 use Rattle.replies.specs.declared.input.Input.TheVariants.{File, Standard}
-use Rattle.replies.specs.Inputs.{IsOpened, StandsFor, CannotOpen, HasNotOpened}
-use Rattle.replies.specs.Merges.{HasReadReport, HaveReadReports, IsRefusedReport, IsFirstRefused}
-use Rattle.replies.specs.Files.{IsAnsweredOf}
 
 module _ {F E : Type 0} (Gives May : List ℕ → Result F E → Type 0) (may : (name : List ℕ) (r : Result F E) → Gives name r → May name r) (known : Input F → Option (List ℕ)) where
   opened_so : (name : List ℕ) (i : Input F) → IsOpened (Gives name) i → IsOpened (May name) i

@@ -1,25 +1,18 @@
 -- What a status says of the races of a trace.
-use Rattle.std.proofs.Common.{◌≡◌, ◌↔◌, ℕ, ◌<◌, List, [], ◌∷◌, Option, None, Some, refl, arith, subst, ◌≤◌, ◌⊎◌, inl, inr}
+use Rattle.replies.proofs.Common.{◌≡◌, ◌↔◌, ℕ, ◌<◌, List, [], ◌∷◌, Option, None, Some, refl, arith, subst, ◌≤◌, ◌⊎◌, inl, inr, Record, IsWellNested, RaceAt, Access, IsPair, ArePairs, rtext, AnswersCheck, AnswersCheckOf, IsRacyIn}
 use native.Mathlib.Decide.{dec_le}
 use Rattle.std.specs.List.{Contains}
-use Rattle.dag.specs.declared.records.Record.{Record}
 use Rattle.dag.specs.declared.part.Part.{Part}
-use Rattle.dag.specs.Traces.{IsWellNested}
-use Rattle.dag.specs.Accesses.{RaceAt}
 use Rattle.dag.specs.declared.records.Kind.{Kind}
 use Rattle.dag.specs.declared.records.Kind.TheVariants.{Read, Write}
-use Rattle.dag.specs.declared.records.Access.{Access}
 use Rattle.dag.specs.Races.{IsAccess, IsRead, IsWrite, IsRace, HasRace}
 use Rattle.dag.proofs.Lists.{Contains-nil}
 use Rattle.audit.specs.declared.answers.Explained.{Explained}
-use Rattle.audit.specs.Pairs.{IsPair, ArePairs}
 use Rattle.audit.specs.Explanations.{Explains}
-use Rattle.collect.specs.ReportText.{rtext}
 use Rattle.verdict.specs.Racy.{HasLocation}
 use Rattle.detect.specs.declared.sharded.Run.{Run}
 use Rattle.detect.specs.RunReports.{RunAnswers, RunAnswersPart}
 use Rattle.detect.proofs.PartReports.{whole_answers}
-use Rattle.replies.specs.Questions.{AnswersCheck, AnswersCheckOf, IsRacyIn}
 
 no_location : (l : ℕ) → HasLocation [] l → ⊥
 no_location l (r, (k, within, is), at) = absurd (omega arith)

@@ -1,10 +1,5 @@
 -- Kept names stay earlier than later places, and what an access leaves of each location.
-use Rattle.std.proofs.Common.{◌≡◌, ℕ, ◌+◌, ◌<◌, ◌≤◌, List, Bool, true, false, cond, ◌==◌, arith}
-use Rattle.shadow.specs.Cells.{Name, Cell, untouched}
-use Rattle.shadow.specs.Before.{IsNameBefore, IsCellBefore}
-use Rattle.shadow.specs.Pages.{cell_of, Page}
-use Rattle.shadow.specs.Found.{with_cell}
-use Rattle.shadow.specs.Shadow.{Shadow, kept_of, IsShadowBefore}
+use Rattle.shadow.proofs.Common.{◌≡◌, ℕ, ◌+◌, ◌<◌, ◌≤◌, List, Bool, true, false, cond, ◌==◌, arith, Name, Cell, untouched, IsNameBefore, IsCellBefore, cell_of, Page, with_cell, Shadow, kept_of, IsShadowBefore}
 
 pub name_later : (p q m n : ℕ) (x : Name) → p ≤ q → m ≤ n → IsNameBefore p m x → IsNameBefore q n x
 name_later p q m n x pq mn h = record { from_one = h.from_one; earlier = omega arith; known = omega arith }

@@ -1,19 +1,5 @@
 -- What a cell holds, said by paths: the last write, the kept reader, and whether a race has come.
-use Rattle.std.proofs.Common.{◌≡◌, ℕ, suc, ◌<◌, ◌≤◌, Bool, true, false, ◌||◌, is_some, cond, List, Option, Some, None, ◌↔◌, inl, inr, ⊎_elim, refl, sym, subst, ◌∙◌, arith}
-use Rattle.std.specs.Option.{option_or}
-use Rattle.std.proofs.lemmas.Bool.{cases_lt}
-use Rattle.dag.specs.declared.records.Record.{Record}
-use Rattle.dag.specs.declared.records.Record.TheVariants as records
-use Rattle.dag.specs.declared.records.Kind.{Kind}
-use Rattle.dag.specs.declared.records.Kind.TheVariants.{Read, Write}
-use Rattle.dag.specs.declared.records.Access.{Access}
-use Rattle.dag.specs.Traces.{IsPlace, IsWellNested}
-use Rattle.dag.specs.Dag.{IsParallel, Leads}
-use Rattle.dag.specs.Races.{IsAccess, IsAccessPlace, IsRead, IsWrite, IsRace, IsLastWrite, IsKeptReader, IsReported, nothing_yet, no_read, first_read, replaces, stays}
-use Rattle.bags.specs.Procedures.{Active, in_p, current, procedure_at}
-use Rattle.shadow.specs.Cells.{Cell, Name, untouched, parallel_access, name_of, reader_after, rival, touched}
-use Rattle.dag.proofs.Paths.{IsPlace-at, leads_or_parallel}
-use Rattle.dag.proofs.Readers.{NoneBefore, NoWrite, NoRead, last_write_parallel, no_read_parallel, kept_reads, reported_by_write, reported_by_reader, no_race_at_read, no_race_at_write}
+use Rattle.shadow.proofs.Common.{◌≡◌, ℕ, suc, ◌<◌, ◌≤◌, Bool, true, false, ◌||◌, is_some, cond, List, Option, Some, None, ◌↔◌, inl, inr, ⊎_elim, refl, sym, subst, arith, option_or, cases_lt, Record, Kind, Read, Write, Access, IsPlace, IsWellNested, IsParallel, Leads, IsAccess, IsAccessPlace, IsRead, IsWrite, IsRace, IsLastWrite, IsKeptReader, IsReported, nothing_yet, no_read, first_read, replaces, stays, Active, in_p, current, procedure_at, Cell, Name, untouched, parallel_access, name_of, reader_after, rival, touched, IsPlace-at, leads_or_parallel, NoneBefore, NoWrite, NoRead, last_write_parallel, no_read_parallel, kept_reads, reported_by_write, reported_by_reader, no_race_at_read, no_race_at_write, read_no_write}
 
 -- a P-bag holds the procedure of a place up to t just where the place is parallel to the next
 abbrev pub Sees : List Record → ℕ → List Active → Type 0
@@ -155,19 +141,16 @@ cell_stays w l t c f a = record {
   reported = reported_later w l t c.reported (elsewhere_no_race w l (suc t) f) a.reported;
 }
 
-not_both : (w : List Record) (l j : ℕ) → IsRead w l j → IsWrite w l j → ⊥
-not_both w l j a b = let e : Some (records.Read l) ≡ Some (records.Write l) = sym a ∙ b in absurd (cc)
-
 -- an access of the location leaves its cell right
 pub cell_touched : (w : List Record) {n d : ℕ} → IsWellNested w n d → (l t : ℕ) (fs : List Active) → Sees w t fs → current fs ≡ procedure_at w (suc t) → (k : Kind) → IsAccess w l (suc t) k → (c : Cell) → IsCell w l t c → IsCell w l (suc t) (touched fs k (suc t) c)
 cell_touched w v l t fs s e Read a c x = record {
-  writer = writer_stays w l (suc t) (not_both w l (suc t) a) c.writer x.writer;
+  writer = writer_stays w l (suc t) (read_no_write w l (suc t) a) c.writer x.writer;
   reader = reader_new w v l t fs s e a c.reader x.reader;
   reported = reported_new w l t Read c.reported _ (λ f. rival_says w v l t fs s Read a f c x.writer x.reader) x.reported;
 }
 cell_touched w v l t fs s e Write a c x = record {
   writer = writer_new w l (suc t) fs e a;
-  reader = reader_stays w l (suc t) (λ r. not_both w l (suc t) r a) c.reader x.reader;
+  reader = reader_stays w l (suc t) (λ r. read_no_write w l (suc t) r a) c.reader x.reader;
   reported = reported_new w l t Write c.reported _ (λ f. rival_says w v l t fs s Write a f c x.writer x.reader) x.reported;
 }
 

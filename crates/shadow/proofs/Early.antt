@@ -1,26 +1,7 @@
 -- The races found in the first records of a well nested trace are those of the dag up to there.
-use Rattle.std.proofs.Common.{◌≡◌, ℕ, zero, suc, ◌<◌, ◌≤◌, Bool, true, false, List, [], ◌∷◌, ◌++◌, length, take, slice_get, Option, Some, None, option_to_list, ◌⊎◌, ◌↔◌, inl, inr, ⊎_elim, refl, sym, ap, subst, ◌∙◌, arith}
-use Rattle.std.proofs.lemmas.Bool.{cases_eq, cases_lt}
-use Rattle.std.proofs.lemmas.List.{take_all}
-use Rattle.std.proofs.lemmas.Option.{same_Some}
-use Rattle.dag.specs.declared.records.Record.{Record}
+use Rattle.shadow.proofs.Common.{◌≡◌, ℕ, zero, suc, ◌<◌, ◌≤◌, Bool, true, false, List, [], ◌∷◌, ◌++◌, length, take, slice_get, Option, Some, None, option_to_list, ◌⊎◌, ◌↔◌, inl, inr, ⊎_elim, refl, sym, ap, subst, ◌∙◌, arith, cases_eq, cases_lt, take_all, same_Some, Record, Kind, Read, Write, Access, Placed, at, IsWellNested, placed, IsParallel, RaceAt, access, IsAccess, IsAccessPlace, IsRace, IsReported, Procedures, in_p, current, procedure_at, rival, race_at, race_with, State, after_access, after_record, race_of, state_after, found, element_at, IsPlace-at, IsAccessPlace-at, NoneBefore, In, reported_once}
 use Rattle.dag.specs.declared.records.Record.TheVariants as records
-use Rattle.dag.specs.declared.records.Kind.{Kind}
-use Rattle.dag.specs.declared.records.Kind.TheVariants.{Read, Write}
-use Rattle.dag.specs.declared.records.Access.{Access}
-use Rattle.dag.specs.declared.records.Placed.{Placed}
-use Rattle.dag.specs.Traces.{at, IsWellNested, placed}
-use Rattle.dag.specs.Dag.{IsParallel}
-use Rattle.dag.specs.Accesses.{RaceAt}
-use Rattle.dag.specs.Races.{access, IsAccess, IsAccessPlace, IsRace, IsReported}
-use Rattle.bags.specs.Procedures.{Procedures, in_p, current, procedure_at}
-use Rattle.shadow.specs.Cells.{rival, race_at, race_with}
-use Rattle.shadow.specs.Found.{State, after_access, after_record, race_of, state_after, found}
 use Rattle.bags.proofs.BagPaths.{in_p-parallel}
-use Rattle.dag.proofs.Lists.{element_at}
-use Rattle.dag.proofs.Paths.{IsPlace-at}
-use Rattle.dag.proofs.Readers.{IsAccessPlace-at, NoneBefore}
-use Rattle.dag.proofs.Once.{In, reported_once}
 use Rattle.shadow.proofs.FoundLaws.{state_after-push, found-push, bags-state_after, placed_from-push, length-placed_from, kept-same, kept-other}
 use Rattle.shadow.proofs.Cells.{Sees, IsCell, HasReported, RivalSays, IsElsewhere, rival_says, cell_stays, cell_touched, cell_start}
 

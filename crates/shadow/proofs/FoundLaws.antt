@@ -1,22 +1,7 @@
 -- Laws of the rules over lists of placed records, whatever trace they come from: appending, one location at a
 -- time, and the order of the races that are reported.
-use Rattle.std.proofs.Common.{◌≡◌, ◌≢◌, ℕ, zero, suc, ◌+◌, ◌<◌, Bool, true, false, ◌||◌, is_some, ◌==◌, List, [], ◌∷◌, ◌++◌, map, take, length, slice_get, Option, Some, None, option_to_list, refl, sym, ap, subst, ◌∙◌, arith, append-nil, append_assoc}
-use Rattle.std.specs.List.{AllByRecursion}
-use Rattle.std.specs.List.Sorted.{IsStrictlyIncreasing}
-use Rattle.std.proofs.lemmas.Bool.{cond-true, cond-false, cond_both, eq-eqb, ne_eqb, eqb-true, or_left}
-use Rattle.std.proofs.lemmas.Option.{same_Some}
-use Rattle.dag.specs.declared.records.Record.{Record}
+use Rattle.shadow.proofs.Common.{◌≡◌, ◌≢◌, ℕ, zero, suc, ◌+◌, ◌<◌, Bool, true, false, ◌||◌, is_some, ◌==◌, List, [], ◌∷◌, ◌++◌, map, take, length, slice_get, Option, Some, None, option_to_list, refl, sym, ap, subst, ◌∙◌, arith, append-nil, append_assoc, AllByRecursion, IsStrictlyIncreasing, cond-true, cond-false, cond_both, eq-eqb, ne_eqb, eqb-true, or_left, same_Some, Record, Kind, Read, Write, Placed, Access, NoneOn, AreApart, Rises, AllAbove, AllAbove-lower, increasing-from_rises, placed_from, RaceAt, Active, Procedures, event, bags_from, bags_after, Cell, touched, race_at, race_with, State, state_at_start, after_access, after_record, race_of, state_from, state_after, found_from, found}
 use Rattle.dag.specs.declared.records.Record.TheVariants as records
-use Rattle.dag.specs.declared.records.Kind.{Kind}
-use Rattle.dag.specs.declared.records.Kind.TheVariants.{Read, Write}
-use Rattle.dag.specs.declared.records.Placed.{Placed}
-use Rattle.dag.specs.declared.records.Access.{Access}
-use Rattle.dag.specs.Traces.{placed_from}
-use Rattle.dag.specs.Accesses.{RaceAt}
-use Rattle.bags.specs.Procedures.{Active, Procedures, event, bags_from, bags_after}
-use Rattle.shadow.specs.Cells.{Cell, touched, race_at, race_with}
-use Rattle.dag.proofs.Once.{Rises, AllAbove, AllAbove-lower, increasing-from_rises}
-use Rattle.shadow.specs.Found.{State, state_at_start, after_access, after_record, race_of, state_from, state_after, found_from, found}
 
 pub state_from-append : (s : State) (u v : List Placed) → state_from s (u ++ v) ≡ state_from (state_from s u) v
 state_from-append s [] v = refl
@@ -145,7 +130,7 @@ reported-after_record s place records.Sync l e = e
 reported-after_record s place (records.Read m) l e = reported-after_access s m Read place l e
 reported-after_record s place (records.Write m) l e = reported-after_access s m Write place l e
 
-pub not_again : (s : State) (u : List Placed) (l : ℕ) → (s.kept l).reported ≡ true → AllByRecursion (λ r. l ≢ r.location) (found_from s u)
+pub not_again : (s : State) (u : List Placed) (l : ℕ) → (s.kept l).reported ≡ true → NoneOn l (found_from s u)
 not_again s [] l e = tt
 not_again s (p ∷ u) l e = all_next (λ r. l ≢ r.location) _ _
     (λ x q z. let a = (race_of-is s p.place p.what x q).1 in let b : (s.kept x.location).reported ≡ true = subst (λ (i : ℕ). (s.kept i).reported ≡ true) z e in absurd (cc))
@@ -175,16 +160,11 @@ reported_then s place records.Sync x e = absurd (cc)
 reported_then s place (records.Read l) x e = reported_access s l Read place x e
 reported_then s place (records.Write l) x e = reported_access s l Write place x e
 
--- no two races are of one location
-abbrev pub Apart : List RaceAt → Type 0
-Apart [] = Unit {0}
-Apart (r ∷ rs) = AllByRecursion (λ q. r.location ≢ q.location) rs × Apart rs
-
-apart_next : (o : Option RaceAt) (rs : List RaceAt) → ((x : RaceAt) → o ≡ Some x → AllByRecursion (λ q. x.location ≢ q.location) rs) → Apart rs → Apart (option_to_list o ++ rs)
+apart_next : (o : Option RaceAt) (rs : List RaceAt) → ((x : RaceAt) → o ≡ Some x → NoneOn x.location rs) → AreApart rs → AreApart (option_to_list o ++ rs)
 apart_next None rs f a = a
 apart_next (Some x) rs f a = (f x refl, a)
 
-pub found_from-apart : (s : State) (u : List Placed) → Apart (found_from s u)
+pub found_from-apart : (s : State) (u : List Placed) → AreApart (found_from s u)
 found_from-apart s [] = tt
 found_from-apart s (p ∷ u) = apart_next _ _ (λ x e. not_again (after_record s p.place p.what) u x.location (reported_then s p.place p.what x e)) (found_from-apart (after_record s p.place p.what) u)
 

@@ -1,12 +1,5 @@
 -- The verdict of the rules is the report of the dag.
-use Rattle.std.proofs.Common.{◌≡◌, ℕ, ◌≤◌, List, [], ◌∷◌, map, take, Contains, ◌↔◌, inl, refl, subst, arith}
-use Rattle.std.specs.List.Sorted.{IsStrictlyIncreasing}
-use Rattle.dag.specs.declared.records.Record.{Record}
-use Rattle.dag.specs.Traces.{IsWellNested, placed}
-use Rattle.dag.specs.Accesses.{RaceAt}
-use Rattle.dag.specs.Races.{IsRace, IsReported, IsReport}
-use Rattle.shadow.specs.Found.{state_at_start, found, verdict}
-use Rattle.dag.proofs.Once.{In, In_from, Contains_from, report_once}
+use Rattle.shadow.proofs.Common.{◌≡◌, ℕ, ◌≤◌, List, [], ◌∷◌, map, take, Contains, ◌↔◌, inl, refl, subst, arith, IsStrictlyIncreasing, Record, IsWellNested, placed, RaceAt, IsRace, IsReported, IsReport, state_at_start, found, verdict, In, In_from, Contains_from, report_once}
 use Rattle.shadow.proofs.FoundLaws.{Rising-placed_from, Rising-take, found-increasing, found_from-apart}
 use Rattle.shadow.proofs.Listed.{increasing-by_location, In-by_location, In-from_by_location}
 use Rattle.shadow.proofs.Early.{early, early-all, reports_of}

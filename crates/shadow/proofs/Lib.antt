@@ -1,3 +1,4 @@
+pub mod Common
 pub mod PageLemmas
 pub mod CellLemmas
 pub mod FoundLaws

@@ -1,12 +1,5 @@
 -- Races by ascending location: the same races, in order where no two are of one location.
-use Rattle.std.proofs.Common.{◌≡◌, ◌≢◌, ℕ, ◌<◌, ltb, List, [], ◌∷◌, map, ◌⊎◌, inl, inr, ⊎_elim, arith}
-use Rattle.std.specs.List.{AllByRecursion}
-use Rattle.std.specs.List.Sorted.{IsStrictlyIncreasing}
-use Rattle.std.proofs.lemmas.Bool.{cond_both, ltb-true, ltb-false}
-use Rattle.dag.specs.Accesses.{RaceAt}
-use Rattle.shadow.specs.Found.{put_in, by_location}
-use Rattle.dag.proofs.Once.{In, Rises, AllAbove, AllAbove-lower, increasing-from_rises}
-use Rattle.shadow.proofs.FoundLaws.{Apart}
+use Rattle.shadow.proofs.Common.{◌≡◌, ◌≢◌, ℕ, ◌<◌, ltb, List, [], ◌∷◌, map, ◌⊎◌, inl, inr, ⊎_elim, arith, AllByRecursion, IsStrictlyIncreasing, cond_both, ltb-true, ltb-false, RaceAt, put_in, by_location, In, Rises, AllAbove, AllAbove-lower, increasing-from_rises, AreApart}
 
 abbrev pub location_of : RaceAt → ℕ
 location_of r = r.location
@@ -32,12 +25,12 @@ Rises-put_in r (s ∷ rs) a d = cond_both (ltb r.location s.location) (r ∷ s �
     (λ e. below_front r s rs (ltb-true _ _ e) a)
     (λ e. let n = d.0 in let h = ltb-false _ _ e in (AllAbove-put_in s.location r rs (omega arith) a.0, Rises-put_in r rs a.1 d.1))
 
-pub Rises-by_location : (rs : List RaceAt) → Apart rs → Rises location_of (by_location rs)
+pub Rises-by_location : (rs : List RaceAt) → AreApart rs → Rises location_of (by_location rs)
 Rises-by_location [] a = tt
 Rises-by_location (r ∷ rs) a = Rises-put_in r (by_location rs) (Rises-by_location rs a.1) (All-by_location (λ q. r.location ≢ q.location) rs a.0)
 
 -- where no two races are of one location, the locations rise
-pub increasing-by_location : (rs : List RaceAt) → Apart rs → IsStrictlyIncreasing (map (λ r. r.location) (by_location rs))
+pub increasing-by_location : (rs : List RaceAt) → AreApart rs → IsStrictlyIncreasing (map (λ r. r.location) (by_location rs))
 increasing-by_location rs a = increasing-from_rises location_of (by_location rs) (Rises-by_location rs a)
 
 in_front : (x r s : RaceAt) (rs : List RaceAt) → In x (s ∷ put_in r rs) → (In x (put_in r rs) → (r ≡ x) ⊎ In x rs) → (r ≡ x) ⊎ In x (s ∷ rs)

@@ -1,22 +1,10 @@
 -- Pages in a list by their numbers: their indices, and what is kept after one seat was put.
-use Rattle.std.proofs.Common.{◌≡◌, ◌≢◌, ◌≤◌, ◌+◌, ◌*◌, ◌/◌, ◌%◌, ℕ, zero, suc, ◌⊎◌, inl, inr, arith, ⊎_elim, List, [], ◌∷◌, Option, Some, true, false, cond, if◌then◌else◌, ◌==◌, ◌&&◌, nat_eq, unwrap_or, slice_get, option_map, position, get_or, length, ◌<◌, refl, sym, subst, ap, ◌∙◌}
-use Rattle.std.specs.Map.{lookup, keys_of, values_of}
-use Rattle.std.proofs.lemmas.Bool.{cases_eq, eqb-true, eq-eqb, ne_eqb}
+use Rattle.shadow.proofs.Common.{◌≡◌, ◌≢◌, ◌≤◌, ◌+◌, ◌*◌, ◌/◌, ◌%◌, ℕ, zero, suc, ◌⊎◌, inl, inr, arith, ⊎_elim, List, [], ◌∷◌, Option, Some, true, false, cond, if◌then◌else◌, ◌==◌, ◌&&◌, nat_eq, unwrap_or, slice_get, option_map, position, get_or, length, ◌<◌, refl, sym, subst, ap, ◌∙◌, lookup, keys_of, values_of, cases_eq, eqb-true, eq-eqb, ne_eqb, div-add-mod', div-mul-add, mod-mul-add, mod-lt, Kind, RaceAt, Procedures, IsCellBefore, HasTouched, Cell, touched, page_numbered, cell_in, cell_of, page_of, seat_of, IsPageAt, HasPut, HasSameCells, Page, no_page, cell_at, shards_of, apart_of, own_page_of, with_cell}
 use Rattle.std.proofs.lemmas.Bool.Decides.{eqb_tells}
-use Rattle.std.proofs.lemmas.Nat.{div-add-mod', div-mul-add, mod-mul-add}
-use Rattle.std.proofs.Math.Nat.{mod-lt}
 use Rattle.std.proofs.lemmas.List.Quantifiers.{position-Some}
-use Rattle.dag.specs.declared.records.Kind.{Kind}
-use Rattle.dag.specs.Accesses.{RaceAt}
-use Rattle.bags.specs.Procedures.{Procedures}
-use Rattle.shadow.specs.Before.{IsCellBefore}
-use Rattle.shadow.specs.Touches.{HasTouched}
-use Rattle.shadow.specs.Cells.{Cell, touched}
 use Rattle.shadow.specs.Lending.{HasSetPage}
-use Rattle.shadow.specs.Pages.{page_numbered, cell_in, cell_of, page_of, seat_of, IsPageAt, HasPut, HasSameCells, Page, no_page, cell_at, shards_of, apart_of, own_page_of}
 use Rattle.shadow.specs.declared.spot.Layout.{Layout}
 use Rattle.shadow.specs.declared.spot.Layout.TheVariants.{Program, Shards}
-use Rattle.shadow.specs.Found.{with_cell}
 
 -- a number at the place that its look-up gives
 pub at_its_index : (es : List (ℕ × Page)) (i page : ℕ) → position (nat_eq page) (keys_of es) ≡ Some i → IsPageAt es i page

@@ -1,13 +1,5 @@
 -- Races by ascending location stay so where each is moved to the location of its number, and where some are left out.
-use Rattle.std.proofs.Common.{◌≡◌, ℕ, ◌*◌, ◌<◌, ◌≤◌, Bool, true, false, cond, ltb, filter, List, [], ◌∷◌, map, ⊎_elim, refl, sym, ap, subst, ◌∙◌, arith}
-use Rattle.std.proofs.lemmas.Bool.{cases_Bool, cond-true, cond-false, ltb-true, ltb-false, lt-ltb, le-ltb}
-use Rattle.std.proofs.Math.Nat.{mul-lt-mul_of_pos_right, mul-le-mul_right}
-use Rattle.dag.specs.declared.part.Part.{Part}
-use Rattle.dag.specs.Accesses.{RaceAt}
-use Rattle.dag.specs.Parts.{location_at}
-use Rattle.dag.proofs.Once.{Rises, AllAbove, AllAbove-lower}
-use Rattle.shadow.specs.Found.{put_in, by_location}
-use Rattle.shadow.proofs.FoundLaws.{Apart}
+use Rattle.shadow.proofs.Common.{◌≡◌, ℕ, ◌*◌, ◌<◌, ◌≤◌, Bool, true, false, cond, ltb, filter, List, [], ◌∷◌, map, ⊎_elim, refl, sym, ap, subst, ◌∙◌, arith, cases_Bool, cond-true, cond-false, ltb-true, ltb-false, lt-ltb, le-ltb, mul-lt-mul_of_pos_right, mul-le-mul_right, Part, RaceAt, location_at, Rises, AllAbove, AllAbove-lower, AreApart, put_in, by_location}
 use Rattle.shadow.proofs.Listed.{location_of, Rises-by_location}
 use Rattle.shadow.proofs.Parted.{located}
 
@@ -50,7 +42,7 @@ filter-put_in p r (s ∷ rs) own a = ⊎_elim
     (cases_Bool (p s)))
     (cases_Bool (ltb r.location s.location))
 
-pub filter-by_location : (p : RaceAt → Bool) (rs : List RaceAt) → Apart rs → filter p (by_location rs) ≡ by_location (filter p rs)
+pub filter-by_location : (p : RaceAt → Bool) (rs : List RaceAt) → AreApart rs → filter p (by_location rs) ≡ by_location (filter p rs)
 filter-by_location p [] a = refl
 filter-by_location p (r ∷ rs) a =
     let ih = filter-by_location p rs a.1 in

@@ -1,22 +1,6 @@
 -- Parts: what is found in a part's records are the races of its locations, each by its location's number.
-use Rattle.std.proofs.Common.{◌≡◌, ℕ, ◌+◌, ◌*◌, ◌/◌, ◌%◌, Bool, true, false, filter, List, [], ◌∷◌, ◌++◌, map, Option, Some, None, option_to_list, ⊎_elim, refl, sym, ap, ap₂, subst, ◌∙◌}
-use Rattle.std.specs.List.{AllByRecursion}
-use Rattle.std.proofs.lemmas.Bool.{cases_Bool, cases_eq, cond-true, cond-false, eqb-true}
-use Rattle.std.proofs.lemmas.List.{map-append}
-use Rattle.std.proofs.lemmas.Nat.{div-mul-add, div-add-mod'}
-use Rattle.dag.specs.declared.records.Record.{Record}
+use Rattle.shadow.proofs.Common.{◌≡◌, ℕ, ◌+◌, ◌*◌, ◌/◌, ◌%◌, Bool, true, false, filter, List, [], ◌∷◌, ◌++◌, map, Option, Some, None, option_to_list, ⊎_elim, refl, sym, ap, ap₂, subst, ◌∙◌, AllByRecursion, cases_Bool, cases_eq, cond-true, cond-false, eqb-true, map-append, div-mul-add, div-add-mod', Record, Kind, Read, Write, Access, Placed, Part, RaceAt, goes, goes_placed, share, numbered, numbered_at, records_of, location_at, races_of_part, Procedures, event, Cell, touched, race_at, race_with, rival, State, state_at_start, after_access, after_record, race_of, found_from, found}
 use Rattle.dag.specs.declared.records.Record.TheVariants as records
-use Rattle.dag.specs.declared.records.Kind.{Kind}
-use Rattle.dag.specs.declared.records.Kind.TheVariants.{Read, Write}
-use Rattle.dag.specs.declared.records.Access.{Access}
-use Rattle.dag.specs.declared.records.Placed.{Placed}
-use Rattle.dag.specs.declared.part.Part.{Part}
-use Rattle.dag.specs.Accesses.{RaceAt}
-use Rattle.dag.specs.Shares.{goes, goes_placed, share}
-use Rattle.dag.specs.Parts.{numbered, numbered_at, records_of, location_at, races_of_part}
-use Rattle.bags.specs.Procedures.{Procedures, event}
-use Rattle.shadow.specs.Cells.{Cell, touched, race_at, race_with, rival}
-use Rattle.shadow.specs.Found.{State, state_at_start, after_access, after_record, race_of, found_from, found}
 use Rattle.shadow.proofs.FoundLaws.{kept-same, kept-other}
 use Rattle.shadow.proofs.Sharing.{found-share}
 

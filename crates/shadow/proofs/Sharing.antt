@@ -1,18 +1,7 @@
 -- Sharing: a shard finds in its share the races of its own locations.
-use Rattle.std.proofs.Common.{◌≡◌, ℕ, ◌%◌, Bool, true, false, cond, ◌==◌, filter, List, [], ◌∷◌, ◌++◌, Option, Some, None, option_to_list, ⊎_elim, refl, sym, ap, ap₂, subst, ◌∙◌}
-use Rattle.std.proofs.lemmas.Bool.{cases_Bool, cases_eq, cond-true, cond-false}
+use Rattle.shadow.proofs.Common.{◌≡◌, ℕ, ◌%◌, Bool, true, false, cond, ◌==◌, filter, List, [], ◌∷◌, ◌++◌, Option, Some, None, option_to_list, ⊎_elim, refl, sym, ap, ap₂, subst, ◌∙◌, cases_Bool, cases_eq, cond-true, cond-false, Record, Kind, Read, Write, Access, Placed, RaceAt, goes, share, Procedures, event, Cell, touched, race_at, race_with, State, state_at_start, after_access, after_record, race_of, found_from, found}
 use Rattle.std.proofs.lemmas.List.Elements.{filter-append}
-use Rattle.dag.specs.declared.records.Record.{Record}
 use Rattle.dag.specs.declared.records.Record.TheVariants as records
-use Rattle.dag.specs.declared.records.Kind.{Kind}
-use Rattle.dag.specs.declared.records.Kind.TheVariants.{Read, Write}
-use Rattle.dag.specs.declared.records.Access.{Access}
-use Rattle.dag.specs.declared.records.Placed.{Placed}
-use Rattle.dag.specs.Accesses.{RaceAt}
-use Rattle.dag.specs.Shares.{goes, share}
-use Rattle.bags.specs.Procedures.{Procedures, event}
-use Rattle.shadow.specs.Cells.{Cell, touched, race_at, race_with}
-use Rattle.shadow.specs.Found.{State, state_at_start, after_access, after_record, race_of, found_from, found}
 use Rattle.shadow.proofs.FoundLaws.{kept-same, kept-other, race_with-is}
 
 -- whether a location is of shard k of n

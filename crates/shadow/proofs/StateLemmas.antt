@@ -1,16 +1,6 @@
 -- One more record: the state after it, and the races found up to it.
-use Rattle.std.proofs.Common.{◌≡◌, ℕ, ◌≤◌, List, [], ◌∷◌, ◌++◌, Option, None, refl, sym, ap, subst, ◌∙◌, Result, Ok, Err, OnOk, IfOk, length, arith}
-use Rattle.std.specs.Option.{option_to_list}
-use Rattle.dag.specs.declared.records.Record.{Record}
+use Rattle.shadow.proofs.Common.{◌≡◌, ℕ, ◌≤◌, List, [], ◌∷◌, ◌++◌, Option, None, refl, sym, ap, subst, ◌∙◌, Result, Ok, Err, OnOk, IfOk, length, arith, Record, Placed, Kind, Read, Write, RaceAt, Procedures, Active, event, after_return, touched, race_at, State, with_cell, after_access, after_record, race_of, state_after, found, Shadow, kept_of, HaveSeen, option_to_list}
 use Rattle.dag.specs.declared.records.Record.TheVariants as records
-use Rattle.dag.specs.declared.records.Placed.{Placed}
-use Rattle.dag.specs.declared.records.Kind.{Kind}
-use Rattle.dag.specs.declared.records.Kind.TheVariants.{Read, Write}
-use Rattle.dag.specs.Accesses.{RaceAt}
-use Rattle.bags.specs.Procedures.{Procedures, Active, event, after_return}
-use Rattle.shadow.specs.Cells.{touched, race_at}
-use Rattle.shadow.specs.Found.{State, with_cell, after_access, after_record, race_of, state_after, found}
-use Rattle.shadow.specs.Shadow.{Shadow, kept_of, HaveSeen}
 use Rattle.shadow.proofs.FoundLaws.{state_after-push, found-push}
 
 -- the races after one more record, from what is known of the state before

@@ -1,15 +1,6 @@
 -- Where a worker's lane back has no refused growth, its races are those found.
-use Rattle.std.proofs.Common.{◌≡◌, true, false, true≢false, List, [], ◌∷◌, ◌++◌, inl, inr, refl, sym, ap, ◌∙◌}
-use Rattle.dag.specs.declared.records.Placed.{Placed}
-use Rattle.dag.specs.Accesses.{RaceAt}
-use Rattle.shadow.specs.Found.{found}
-use Rattle.lane.specs.declared.item.Item.{Item}
-use Rattle.lane.specs.declared.item.Item.TheVariants.{One, Finish}
-use Rattle.lane.specs.Items.{records}
-use Rattle.dag.specs.declared.back.Back.{Back}
-use Rattle.dag.specs.declared.back.Back.TheVariants.{NoMemory}
+use Rattle.shard.proofs.Common.{◌≡◌, true, false, true≢false, List, [], ◌∷◌, ◌++◌, inl, inr, refl, sym, ap, ◌∙◌, Placed, RaceAt, found, Item, One, Finish, records, Back, NoMemory, race_items, PutsFound}
 use Rattle.dag.specs.Backs.{races_of, fails}
-use Rattle.shard.specs.Working.{race_items, PutsFound}
 
 races-put : (rs : List RaceAt) → races_of (records (race_items rs ++ Finish ∷ [])) ≡ rs
 races-put [] = refl

@@ -1,15 +1,9 @@
 -- Records are in order exactly where they may follow the start of a run.
-use Rattle.std.proofs.Common.{◌≡◌, ℕ, zero, suc, ◌+◌, ◌-◌, ◌<◌, ◌≤◌, List, [], ◌∷◌, length, take, Some, slice_get, ◌⊎◌, inl, inr, ◌↔◌, ⊎_elim, refl, sym, ap, subst, arith}
+use Rattle.shard.proofs.Common.{◌≡◌, ℕ, zero, suc, ◌+◌, ◌-◌, ◌<◌, ◌≤◌, List, [], ◌∷◌, length, take, Some, slice_get, ◌⊎◌, inl, inr, ◌↔◌, ⊎_elim, refl, sym, ap, subst, arith, length-map, Record, Spawn, Call, Return, Sync, Read, Write, Placed, opens, closes, depth, IsRootReturn, whats, RiseFrom, Follow, AreInOrder}
 use native.Mathlib.Decide.{dec_le}
 use Rattle.std.specs.List.{sum_by}
-use Rattle.std.proofs.lemmas.List.{length-map}
 use Rattle.std.proofs.lemmas.List.Sums.{sum_by-cons}
 use Rattle.std.proofs.lemmas.Option.{same_Some}
-use Rattle.dag.specs.declared.records.Record.{Record}
-use Rattle.dag.specs.declared.records.Record.TheVariants.{Spawn, Call, Return, Sync, Read, Write}
-use Rattle.dag.specs.declared.records.Placed.{Placed}
-use Rattle.dag.specs.Traces.{opens, closes, depth, IsRootReturn}
-use Rattle.shard.specs.Working.{whats, RiseFrom, Follow, AreInOrder}
 
 -- from a depth on, only the last record is a return at depth 0
 abbrev pub EndsLast : ℕ → List Record → Type 0

@@ -1,16 +1,7 @@
 -- Records in order: beginnings of them, how many they are, and what a shard may take.
-use Rattle.std.proofs.Common.{◌≡◌, ℕ, ◌+◌, ◌-◌, ◌≤◌, ◌^◌, true, false, List, [], ◌∷◌, ◌++◌, length, ◌==◌, ◌↔◌, ⊎_elim, refl, sym, ap, subst, ◌∙◌, arith, append_assoc}
-use Rattle.std.proofs.lemmas.Bool.{cases_Bool, eq-eqb, eqb-true}
-use Rattle.dag.specs.declared.records.Record.{Record}
-use Rattle.dag.specs.declared.records.Record.TheVariants.{Spawn, Call, Return, Sync, Read, Write}
-use Rattle.dag.specs.declared.records.Placed.{Placed}
-use Rattle.dag.specs.Traces.{opens, closes}
+use Rattle.shard.proofs.Common.{◌≡◌, ℕ, ◌+◌, ◌-◌, ◌≤◌, ◌^◌, true, false, List, [], ◌∷◌, ◌++◌, length, ◌==◌, ◌↔◌, ⊎_elim, refl, sym, ap, subst, ◌∙◌, arith, append_assoc, cases_Bool, eq-eqb, eqb-true, Record, Spawn, Call, Return, Sync, Read, Write, Placed, opens, closes, bags-state_after, Shadow, HaveSeen, ShardState, Accepts, IsFresh, is_root_return, Follow, AreInOrder, MayTake}
 use Rattle.bags.specs.Procedures.{Procedures, Active, event, after_sync, after_return, bags_from}
-use Rattle.shadow.proofs.FoundLaws.{bags-state_after}
-use Rattle.shadow.specs.Shadow.{Shadow, HaveSeen}
-use Rattle.shard.specs.Shards.{ShardState, Accepts, IsFresh, is_root_return}
 use Rattle.shard.proofs.Follows.{following}
-use Rattle.shard.specs.Working.{Follow, AreInOrder, MayTake}
 
 front_empty : (u rest : List Placed) → u ++ rest ≡ [] → u ≡ []
 front_empty [] rest e = refl

@@ -1,14 +1,8 @@
 -- A beginning of a share of a well nested trace is in order.
-use Rattle.std.proofs.Common.{◌≡◌, ℕ, suc, ◌+◌, ◌-◌, ◌≤◌, ◌^◌, false, List, [], ◌∷◌, length, map, ⊎_elim, refl, sym, ap, subst, arith}
-use Rattle.std.proofs.lemmas.Bool.{cases_Bool, cond-true, cond-false}
-use Rattle.dag.specs.declared.records.Record.{Record}
-use Rattle.dag.specs.declared.records.Record.TheVariants.{Spawn, Call, Return, Sync, Read, Write}
-use Rattle.dag.specs.declared.records.Placed.{Placed}
-use Rattle.dag.specs.Traces.{opens, closes, placed, placed_from, IsWellNested}
+use Rattle.shard.proofs.Common.{◌≡◌, ℕ, suc, ◌+◌, ◌-◌, ◌≤◌, ◌^◌, false, List, [], ◌∷◌, length, map, ⊎_elim, refl, sym, ap, subst, arith, cases_Bool, cond-true, cond-false, Record, Spawn, Call, Return, Sync, Read, Write, Placed, opens, closes, placed, placed_from, IsWellNested, whats, RiseFrom, Follow, AreInOrder, IsOfShare}
 use Rattle.dag.specs.declared.part.Part.{Part}
 use Rattle.dag.specs.Shares.{goes, share}
 use Rattle.dag.specs.Parts.{numbered, numbered_at, records_of}
-use Rattle.shard.specs.Working.{whats, RiseFrom, Follow, AreInOrder, IsOfShare}
 use Rattle.shard.proofs.Follows.{EndsLast, ends_last, to_follow, following}
 use Rattle.shard.proofs.Orders.{Follow-front, Follow-earlier}
 

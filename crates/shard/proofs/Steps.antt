@@ -1,10 +1,5 @@
 -- A race that a shard reports stands at the record's place.
-use Rattle.std.proofs.Common.{◌≡◌, List, [], ◌∷◌, ◌++◌, Option, Some, None, IfSome, refl, sym, ap, ◌∙◌}
-use Rattle.std.specs.Option.{option_to_list}
-use Rattle.dag.specs.declared.records.Placed.{Placed}
-use Rattle.dag.specs.Accesses.{RaceAt}
-use Rattle.shadow.specs.Found.{found, race_of, state_after}
-use Rattle.shadow.proofs.FoundLaws.{found-push, race_of-is}
+use Rattle.shard.proofs.Common.{◌≡◌, List, [], ◌∷◌, ◌++◌, Option, Some, None, IfSome, refl, sym, ap, ◌∙◌, option_to_list, Placed, RaceAt, found, race_of, state_after, found-push, race_of-is}
 
 -- a list that another begins decides its rest
 same_rest : (xs : List RaceAt) (a b : Option RaceAt) → xs ++ option_to_list a ≡ xs ++ option_to_list b → a ≡ b

@@ -1,20 +1,5 @@
 -- What a worker has done after one more record, and when it answers.
-use Rattle.std.proofs.Common.{◌≡◌, ℕ, ◌+◌, ◌-◌, ◌^◌, min, Bool, true, false, List, [], ◌∷◌, ◌++◌, length, Option, inl, inr, ⊎_elim, refl, sym, ap, subst, ◌∙◌, arith, append_assoc, append-nil, length-append}
-use Rattle.std.proofs.lemmas.List.{map-append}
-use Rattle.std.specs.Option.{option_to_list}
-use Rattle.std.proofs.lemmas.Bool.{cases_Bool}
-use Rattle.dag.specs.declared.records.Placed.{Placed}
-use Rattle.dag.specs.Accesses.{RaceAt}
-use Rattle.shadow.specs.Found.{state_at_start, state_from, found_from, found}
-use Rattle.shadow.proofs.FoundLaws.{found_from-append}
-use Rattle.lane.specs.declared.item.Item.{Item}
-use Rattle.lane.specs.declared.item.Item.TheVariants.{One, Finish}
-use Rattle.lane.specs.Items.{IsBeginning}
-use Rattle.dag.specs.declared.back.Back.{Back}
-use Rattle.dag.specs.declared.back.Back.TheVariants.{Race, NoMemory}
-use Rattle.shadow.specs.Shadow.{HaveSeen}
-use Rattle.shard.specs.Shards.{ShardState, Accepts, IsFresh, is_root_return, capped_count}
-use Rattle.shard.specs.Working.{AreInOrder, race_items, HasStopped, out_of_order, no_memory, HasHandedBack, IsGoing, HasWorked, IsOfShare, PutsFound}
+use Rattle.shard.proofs.Common.{◌≡◌, ℕ, ◌+◌, ◌-◌, ◌^◌, min, Bool, true, false, List, [], ◌∷◌, ◌++◌, length, Option, inl, inr, ⊎_elim, refl, sym, ap, subst, ◌∙◌, arith, append_assoc, append-nil, length-append, map-append, option_to_list, cases_Bool, Placed, RaceAt, state_at_start, state_from, found_from, found, found_from-append, Item, One, Finish, IsBeginning, Back, Race, NoMemory, HaveSeen, ShardState, Accepts, IsFresh, is_root_return, capped_count, AreInOrder, race_items, HasStopped, out_of_order, no_memory, HasHandedBack, IsGoing, HasWorked, IsOfShare, PutsFound}
 use Rattle.shard.proofs.Orders.{in_order-front, length-in_order, takes_new, takes_none, takes_next, takes_one, takes_after}
 use Rattle.shard.proofs.Shares.{in_order}
 

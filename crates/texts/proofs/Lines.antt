@@ -1,9 +1,5 @@
 -- A line that is put in parts.
-use Rattle.std.proofs.Common.{◌≡◌, ℕ, List, ◌++◌, Result, codes, decimal, subst, append_assoc}
-use Rattle.dag.specs.Accesses.{RaceAt}
-use Rattle.trace.specs.Devices.{Change}
-use Rattle.trace.specs.Writers.{TookFront, Puts}
-use Rattle.collect.specs.ReportText.{access_text, race_line}
+use Rattle.texts.proofs.Common.{◌≡◌, ℕ, List, ◌++◌, Result, codes, decimal, subst, append_assoc, RaceAt, Change, TookFront, Puts, access_text, race_line}
 
 -- a beginning of a text that is spelled in another way
 pub front_as : {a b : List ℕ} {c : Change} → a ≡ b → TookFront a c → TookFront b c

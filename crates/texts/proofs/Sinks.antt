@@ -1,8 +1,5 @@
 -- What a sink got in an answer, and then by a flush.
-use Rattle.std.proofs.Common.{ℕ, List, [], Result, Ok, Err, MatchResult}
-use Rattle.trace.specs.Devices.{Device, ◌⇝◌}
-use Rattle.trace.specs.Writers.{IsUntouched, Took, TookFront, Puts}
-use Rattle.collect.proofs.Takings.{took_then_none, took_then_failed}
+use Rattle.texts.proofs.Common.{ℕ, List, [], Result, Ok, Err, MatchResult, Device, ◌⇝◌, IsUntouched, Took, TookFront, Puts, took_then_none, took_then_failed}
 
 -- a text, and then a flush
 pub puts_flushed : {T E : Type 0} {a : List ℕ} {s t : Device} (u : Device) (r : Result T E) → Took a (s ⇝ t)

@@ -1,24 +1,8 @@
 -- Bytes that come in pieces: however they were cut a reader gives the same records, and the first fault of
 -- the bytes so far stays the first when more come.
-use Rattle.std.proofs.Common.{◌≡◌, ℕ, ◌+◌, ◌<◌, ◌≤◌, List, [], ◌∷◌, ◌++◌, length, Option, Some, None, Err, ◌⊎◌, inl, inr, arith, refl, sym, ◌∙◌, ap, subst, append_assoc, length-append}
-use Rattle.std.specs.Io.KnownBytes.{IsAtEnd}
-use Rattle.std.specs.List.{flat_map}
-use Rattle.std.proofs.lemmas.Grind.{flat_map-append}
-use Rattle.std.proofs.lemmas.List.{append-nil}
-use Rattle.dag.specs.declared.records.Version.{Version}
-use Rattle.dag.specs.declared.records.Record.{Record}
-use Rattle.trace.specs.declared.faults.TextFault.{TextFault}
-use Rattle.trace.specs.declared.faults.NestFault.{NestFault}
-use Rattle.trace.specs.declared.faults.Fault.{Fault}
-use Rattle.trace.specs.declared.faults.Fault.TheVariants.{Text, Nest, Read, NoMemory, NoThread}
-use Rattle.trace.specs.Text.{header, Fits, AllFit, ended, line, text, IsOpen}
-use Rattle.trace.specs.Faults.{IsJudged, IsNoRecord, IsBadLine, bad_header, bad_line, too_many, IsMisplaced, AreNested, IsBadPlace, bad_place, IsFirstFault, IsFaultOfAll, IsTruncated}
+use Rattle.trace.proofs.Common.{◌≡◌, ℕ, ◌+◌, ◌<◌, ◌≤◌, List, [], ◌∷◌, ◌++◌, length, Option, Some, None, Err, ◌⊎◌, inl, inr, arith, refl, sym, ◌∙◌, ap, subst, append_assoc, length-append, IsAtEnd, flat_map, flat_map-append, append-nil, Version, Record, TextFault, NestFault, Fault, Text, Nest, Read, NoMemory, NoThread, header, AllFit, ended, line, text, IsOpen, IsBadLine, bad_header, bad_line, too_many, IsBadPlace, bad_place, IsFirstFault, IsFaultOfAll, IsTruncated, IsWellNested, Change, Feeding, IsFaultThen, IsFaultFed, IsFed, Reading, AreBytes, AllFitIn, HasRead, all-push}
+use Rattle.trace.specs.Text.{Fits}
 use Rattle.trace.specs.Faults as faults
-use Rattle.dag.specs.Traces.{IsWellNested}
-use Rattle.trace.specs.Devices.{Change}
-use Rattle.trace.specs.Feeding.{Feeding, IsFaultThen, IsFaultFed, IsFed}
-use Rattle.trace.specs.Reading.{Reading, AreBytes, AllFitIn, HasRead}
-use Rattle.dag.proofs.Lists.{all-push}
 use Rattle.trace.proofs.Texts.{text-push}
 use Rattle.trace.proofs.Readings.{so_far, all_fit, first_so_far}
 use Rattle.trace.proofs.Readability.{GoesOn, same_version, same_front, same_record, lines_open, one_line, length_on, open_no_lines, open_no_text, header_judged, behind_good, bad_line_more, bad_place_more, no_truncated, no_fault_of_text, no_fault_in_front}

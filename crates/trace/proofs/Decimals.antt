@@ -1,15 +1,6 @@
 -- Decimals as the digits of a number, read from the left.
-use Rattle.std.proofs.Common.{◌≡◌, ◌≢◌, ℕ, ◌+◌, ◌-◌, ◌*◌, ◌<◌, ◌≤◌, ◌^◌, List, [], ◌∷◌, length, take, get_or, arith, sym, ◌∙◌, ap, subst, decimal, Option, Some, None, IfSome, IfNone}
-use Rattle.std.proofs.Math.Nat.{pow-le-pow_right}
-use Rattle.std.proofs.lemmas.List.{get_or-take, length-take}
+use Rattle.trace.proofs.Common.{◌≡◌, ◌≢◌, ℕ, ◌+◌, ◌-◌, ◌*◌, ◌<◌, ◌≤◌, ◌^◌, List, [], ◌∷◌, length, take, get_or, arith, sym, ◌∙◌, ap, subst, decimal, Option, Some, None, IfSome, IfNone, pow-le-pow_right, get_or-take, IsInRange, digit_value, AllDigits, digits_value, digit_value_digit, IsNumeralModel, numerals_by_value, tells_digits, digits_value-take-le, digits_value_more, digits_more, digits_decimal, digits_value-decimal, decimal-digits_value, decimal_nonempty, first_decimal, decimal_digit, length-take}
 use native.Mathlib.Decide.{dec_le}
-use Rattle.std.specs.Int.{IsInRange}
-use Rattle.std.specs.Char.{digit_value}
-use Rattle.std.specs.Str.Parse.{AllDigits, digits_value}
-use Rattle.std.proofs.lemmas.Str.{digit_value_digit}
-use Rattle.std.proofs.lemmas.Str.Parse.{IsNumeralModel, numerals_by_value, tells_digits, digits_value-take-le}
-use Rattle.std.proofs.lemmas.Int.Digits.{digits_value_more, digits_more}
-use Rattle.std.proofs.lemmas.Fmt.{digits_decimal, digits_value-decimal, decimal-digits_value, decimal_nonempty, first_decimal, decimal_digit}
 
 pub decimal_numerals : IsNumeralModel (AllDigits 10) (digits_value 10)
 decimal_numerals = numerals_by_value _ tells_digits

@@ -1,19 +1,6 @@
 -- How a reading ends: how a fault is reported after bytes that came in steps, that a source that holds a trace meets none,
 -- and what the feed's next record and its end say.
-use Rattle.std.proofs.Common.{◌≡◌, ℕ, ◌+◌, ◌-◌, ◌^◌, ◌⊎◌, min, List, [], ◌∷◌, ◌++◌, length, Option, Some, None, inl, inr, refl, sym, ◌∙◌, ap, subst, Result, Ok, Err, IsErrAnd}
-use Rattle.std.proofs.lemmas.List.{append-nil}
-use Rattle.std.specs.Io.KnownBytes.{Consumes, IsAtEnd}
-use Rattle.dag.specs.declared.records.Version.{Version}
-use Rattle.dag.specs.declared.records.Record.{Record}
-use Rattle.dag.specs.declared.records.Placed.{Placed}
-use Rattle.trace.specs.declared.faults.Fault.{Fault}
-use Rattle.trace.specs.declared.faults.Fault.TheVariants.{Text, Nest, Read, NoMemory, NoThread}
-use Rattle.dag.specs.Traces.{IsWellNested}
-use Rattle.trace.specs.Text.{text, AllFit}
-use Rattle.trace.specs.Devices.{Device, Change, ◌⇝◌, IsSteady, HasFailed, Gave}
-use Rattle.trace.specs.Faults.{IsFaultOfAll}
-use Rattle.trace.specs.Feeding.{Feeding, HasFed, IsWhole, IsFed, IsFaultThen, IsFaultFed}
-use Rattle.trace.specs.Endings.{HoldsTrace, IsRefused, EndsReading}
+use Rattle.trace.proofs.Common.{◌≡◌, ℕ, ◌+◌, ◌-◌, ◌^◌, ◌⊎◌, min, List, [], ◌∷◌, ◌++◌, length, Option, Some, None, inl, inr, refl, sym, ◌∙◌, ap, subst, Result, Ok, Err, IsErrAnd, append-nil, Consumes, IsAtEnd, Version, Record, Placed, Fault, Text, Nest, Read, NoMemory, NoThread, IsWellNested, text, AllFit, Device, Change, ◌⇝◌, IsSteady, HasFailed, Gave, IsFaultOfAll, Feeding, HasFed, IsWhole, IsFed, IsFaultThen, IsFaultFed, HoldsTrace, IsRefused, EndsReading}
 use Rattle.trace.proofs.Feedings.{consumes_more}
 use Rattle.trace.proofs.Readability.{no_fault_in_front, no_fault_of_text}
 

@@ -1,25 +1,7 @@
 -- What each step of a feed leaves of `HasFed`, and that the fault that it meets is the first.
-use Rattle.std.proofs.Common.{◌≡◌, ℕ, ◌+◌, ◌-◌, ◌≤◌, List, [], ◌∷◌, ◌++◌, length, take, drop, Option, Some, None, Result, Err, inl, rules, arith, refl, sym, ◌∙◌, ap, subst, append_assoc, length-append}
-use Rattle.std.specs.Io.KnownBytes.{Consumes}
-use Rattle.std.proofs.lemmas.List.{append-nil, take-append-drop, drop-take, drop-drop, length-take}
-use Rattle.dag.specs.declared.records.Version.{Version}
-use Rattle.dag.specs.declared.records.Record.{Record}
-use Rattle.trace.specs.declared.faults.TextFault.{TextFault}
-use Rattle.trace.specs.declared.faults.NestFault.{NestFault}
-use Rattle.trace.specs.declared.faults.NestKind.{NestKind}
-use Rattle.trace.specs.declared.faults.NestKind.TheVariants.{Unfinished}
-use Rattle.trace.specs.declared.faults.Fault.{Fault}
-use Rattle.trace.specs.declared.faults.Fault.TheVariants.{Text, Nest, Read}
-use Rattle.trace.specs.declared.intake.Ending.TheVariants.{Running, Bad}
-use Rattle.dag.specs.declared.records.Placed.{Placed}
-use Rattle.trace.specs.Text.{Fits, line, text}
-use Rattle.trace.specs.Faults.{HasEnded, IsMisplaced, AreNested, IsBadLine, IsBadPlace, bad_place, IsTruncated, IsFirstFault, IsFaultOfAll, truncated, unfinished}
+use Rattle.trace.proofs.Common.{◌≡◌, ℕ, ◌+◌, ◌-◌, ◌≤◌, List, [], ◌∷◌, ◌++◌, length, take, drop, Option, Some, None, Result, Err, inl, rules, arith, refl, sym, ◌∙◌, ap, subst, append_assoc, length-append, Consumes, append-nil, take-append-drop, drop-take, drop-drop, Version, Record, TextFault, NestFault, NestKind, Unfinished, Fault, Text, Nest, Read, Running, Bad, Placed, line, text, HasEnded, IsMisplaced, IsBadLine, IsBadPlace, bad_place, IsTruncated, IsFirstFault, IsFaultOfAll, truncated, unfinished, Reading, AreBytes, AllFitIn, AreText, HasRead, Nesting, HasNested, Device, Change, ◌⇝◌, HasFailed, Gave, Feeding, before_all, HasUsed, HasFed, GivesNext, EndsAsAnswered, HasSameLimits, IsNext, all-front, all-last, length-take}
+use Rattle.trace.specs.Text.{Fits}
 use Rattle.trace.specs.Faults as faults
-use Rattle.trace.specs.Reading.{Reading, AreBytes, AllFitIn, AreText, HasRead}
-use Rattle.trace.specs.Nesting.{Nesting, HasNested}
-use Rattle.trace.specs.Devices.{Device, Change, ◌⇝◌, HasFailed, Gave}
-use Rattle.trace.specs.Feeding.{Feeding, before_all, HasUsed, HasFed, GivesNext, EndsAsAnswered, HasSameLimits, IsNext}
-use Rattle.dag.proofs.Lists.{all-front, all-last}
 use Rattle.trace.proofs.Readings.{open_nil}
 use Rattle.trace.proofs.Nestings.{nested_none}
 use Rattle.trace.proofs.Texts.{text-push}

@@ -1,9 +1,5 @@
 -- Lines at the front of a piece, byte by byte.
-use Rattle.std.proofs.Common.{◌≡◌, ℕ, ◌+◌, ◌<◌, ◌≤◌, w8, Fits, List, [], ◌∷◌, ◌++◌, length, take, drop, get_or, arith, sym, ◌∙◌, ap, decimal}
-use Rattle.std.proofs.Math.Seq.{take-add}
-use Rattle.std.proofs.lemmas.List.{take_more, take-take, length-take, length-drop}
-use Rattle.std.specs.Int.{w32, from_le_bytes}
-use Rattle.trace.specs.Text.{newline, ended}
+use Rattle.trace.proofs.Common.{◌≡◌, ℕ, ◌+◌, ◌<◌, ◌≤◌, w8, Fits, List, [], ◌∷◌, ◌++◌, length, take, drop, get_or, arith, sym, ◌∙◌, ap, decimal, take-add, take_more, take-take, w32, from_le_bytes, newline, ended, length-take, length-drop}
 
 -- a piece's first four bytes are known by the number that they hold, the lowest byte first
 pub first_four : (piece : List ℕ) (a b c d : ℕ) → ((i : ℕ) → Fits w8 (get_or piece i 0)) → a < 256 → b < 256 → c < 256 → d < 256 → from_le_bytes w32 piece ≡ from_le_bytes w32 (a ∷ b ∷ c ∷ d ∷ [])

@@ -1,3 +1,4 @@
+pub mod Common
 pub mod Decimals
 pub mod Texts
 pub mod Readings

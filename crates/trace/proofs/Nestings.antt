@@ -1,16 +1,7 @@
 -- What each step of a nest leaves of `HasNested`, and what its end says.
-use Rattle.std.proofs.Common.{◌≡◌, ◌≢◌, ℕ, zero, suc, ◌+◌, ◌-◌, ◌<◌, ◌≤◌, Bool, true, false, IsTrue, List, [], ◌∷◌, ◌++◌, length, ◌⊎◌, inl, inr, ⊎_elim, arith, refl, sym, ap, ◌∙◌, subst, length-append, ◌↔◌}
+use Rattle.trace.proofs.Common.{◌≡◌, ◌≢◌, ℕ, zero, suc, ◌+◌, ◌-◌, ◌<◌, ◌≤◌, Bool, true, false, IsTrue, List, [], ◌∷◌, ◌++◌, length, ◌⊎◌, inl, inr, ⊎_elim, arith, refl, sym, ap, ◌∙◌, subst, length-append, ◌↔◌, sum_by, false≢true, sum_by-append, Record, Spawn, Call, Return, Sync, Write, NestKind, AfterEnd, TooDeep, Unfinished, depth, opens, closes, IsPlace, IsRootReturn, IsWellNested, HasEnded, IsMisplaced, after_end, too_deep, AreNested, none, next, Nesting, HasNested}
 use native.Mathlib.Decide.{dec_le}
-use Rattle.std.specs.List.{sum_by}
-use Rattle.std.proofs.lemmas.Bool.{false≢true}
-use Rattle.std.proofs.lemmas.List.Sums.{sum_by-append}
-use Rattle.dag.specs.declared.records.Record.{Record}
-use Rattle.dag.specs.declared.records.Record.TheVariants.{Spawn, Call, Return, Sync, Read, Write}
-use Rattle.trace.specs.declared.faults.NestKind.{NestKind}
-use Rattle.trace.specs.declared.faults.NestKind.TheVariants.{AfterEnd, TooDeep, Unfinished}
-use Rattle.dag.specs.Traces.{depth, opens, closes, IsPlace, IsRootReturn, IsWellNested}
-use Rattle.trace.specs.Faults.{HasEnded, IsMisplaced, after_end, too_deep, AreNested, none, next}
-use Rattle.trace.specs.Nesting.{Nesting, HasNested}
+use Rattle.dag.specs.declared.records.Record.TheVariants.{Read}
 use Rattle.trace.proofs.Places.{at-front, depth-front, depth-next, depth-pushed, ended_before, ended_by, ended_after}
 
 -- where no record is misplaced and the root hasn't returned, no more procedures have returned than were opened

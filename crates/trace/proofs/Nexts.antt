@@ -1,15 +1,5 @@
 -- What a feed's next answer is, after bytes that came and gave no record.
-use Rattle.std.proofs.Common.{◌≡◌, ℕ, ◌⊎◌, List, [], ◌++◌, Option, Result, Ok, Err, Some, None, IsErrAnd, rules, inl, inr, refl, sym, ◌∙◌, ap, subst, append_assoc}
-use Rattle.std.proofs.lemmas.List.{append-nil}
-use Rattle.dag.specs.declared.records.Record.{Record}
-use Rattle.dag.specs.declared.records.Placed.{Placed}
-use Rattle.trace.specs.declared.faults.Fault.{Fault}
-use Rattle.trace.specs.declared.faults.Fault.TheVariants.{Read}
-use Rattle.trace.specs.declared.intake.Ending.TheVariants.{Running, Bad}
-use Rattle.trace.specs.Devices.{Device, Change, ◌⇝◌, IsSteady, HasFailed, Gave}
-use Rattle.trace.specs.Faults.{IsFirstFault}
-use Rattle.trace.specs.Feeding.{Feeding, HasFed, IsFed, IsFaultFed, HasSameLimits, IsNext}
-use Rattle.trace.specs.UsedUp.{HasUsedAll}
+use Rattle.trace.proofs.Common.{◌≡◌, ℕ, ◌⊎◌, List, [], ◌++◌, Option, Result, Ok, Err, Some, None, IsErrAnd, rules, inl, inr, sym, ◌∙◌, ap, subst, append_assoc, append-nil, Record, Placed, Fault, Read, Running, Bad, Device, Change, ◌⇝◌, IsSteady, HasFailed, Gave, IsFirstFault, Feeding, HasFed, IsFed, IsFaultFed, HasSameLimits, IsNext, HasUsedAll}
 use Rattle.trace.proofs.Feedings.{filled, read_all, no_fault_yet, consumes_none, consumes_more, at_limits, answered_bad, next_of_running}
 use Rattle.trace.proofs.Endings.{failed_since, fault_since}
 
@@ -26,14 +16,6 @@ limits_after a b c first second = record { records = second.records ∙ first.re
 -- nothing comes of a source that isn't asked
 pub nothing_came : (P : List ℕ → Type 0) (d : Device) (bytes : List ℕ) → P bytes → (came : List ℕ) × Gave (d ⇝ d) came × P (bytes ++ came)
 nothing_came P d bytes p = ([], consumes_none d.bytes, subst P (sym (append-nil bytes)) p)
-
-pub nothing_read : (s : Feeding) (d : Device) → s.ending ≡ Running → HasReadOn s s (d ⇝ d)
-nothing_read s d running = record {
-  fed = λ w bytes h. let P : List ℕ → Type 0 = λ b. HasFed w b s in nothing_came P d bytes h;
-  steady = refl;
-  running = running;
-  limits = record { records = refl; depths = refl };
-}
 
 -- a fault, with which the feed ends
 pub next_fault : (old s new : Feeding) (c : Change) (f : Fault) → old.ending ≡ Running → new ≡ record s { ending = Bad f } → HasSameLimits old s → (f ≡ Read → HasFailed c)

@@ -1,15 +1,6 @@
 -- Records, depths and root returns of a list of records that is extended at its end.
-use Rattle.std.proofs.Common.{◌≡◌, ℕ, zero, suc, ◌+◌, ◌-◌, ◌≤◌, List, [], ◌∷◌, ◌++◌, length, Some, ◌⊎◌, inl, inr, arith, refl, sym, ◌∙◌, ap, length-append}
+use Rattle.trace.proofs.Common.{◌≡◌, ℕ, zero, suc, ◌+◌, ◌-◌, ◌≤◌, List, [], ◌∷◌, ◌++◌, length, Some, ◌⊎◌, inl, inr, arith, refl, sym, ◌∙◌, ap, length-append, sum_by, take-append-le, sum_by-append, take-length, Record, Return, at, depth, opens, closes, HasEnded, element_at, slice_get-front, slice_get-last}
 use native.Mathlib.Decide.{dec_le}
-use Rattle.std.specs.List.{sum_by}
-use Rattle.std.proofs.lemmas.List.{take-append-le}
-use Rattle.std.proofs.lemmas.List.Sums.{sum_by-append}
-use Rattle.std.proofs.Math.Seq.{take-length}
-use Rattle.dag.specs.declared.records.Record.{Record}
-use Rattle.dag.specs.declared.records.Record.TheVariants.{Return}
-use Rattle.dag.specs.Traces.{at, depth, opens, closes}
-use Rattle.trace.specs.Faults.{HasEnded}
-use Rattle.dag.proofs.Lists.{element_at, slice_get-front, slice_get-last}
 
 pub at-front : (u v : List Record) (i : ℕ) → i ≤ length u → at (u ++ v) i ≡ at u i
 at-front u v zero h = refl

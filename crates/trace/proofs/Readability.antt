@@ -1,25 +1,9 @@
 -- Which trace a text is of, and which faults bytes can have: no two traces have one text, good lines have
 -- no fault, and no bytes have two first faults.
-use Rattle.std.proofs.Common.{◌≡◌, ◌≢◌, ℕ, suc, ◌+◌, ◌-◌, ◌%◌, ◌<◌, ◌≤◌, ◌^◌, List, [], ◌∷◌, ◌++◌, length, Some, ◌⊎◌, inl, inr, arith, refl, sym, ◌∙◌, ap, subst, decimal, codes, append_assoc, length-append, get_or}
-use Rattle.std.specs.List.{flat_map, sum_by, AllByRecursion}
-use Rattle.std.proofs.lemmas.List.{append-nil, append_cancel_left}
-use Rattle.std.proofs.lemmas.List.Elements.{All-from_recursion, All-nil, All-cons, All-head, All-tail, All-push}
-use Rattle.std.proofs.lemmas.Fmt.{decimal_by_steps, decimal_injective}
-use Rattle.dag.specs.declared.records.Version.{Version}
-use Rattle.dag.specs.declared.records.Version.TheVariants.{One, Two}
-use Rattle.dag.specs.declared.records.Record.{Record}
-use Rattle.dag.specs.declared.records.Record.TheVariants.{Spawn, Call, Return, Sync, Read, Write}
-use Rattle.trace.specs.declared.faults.TextFault.{TextFault}
+use Rattle.trace.proofs.Common.{◌≡◌, ◌≢◌, ℕ, suc, ◌+◌, ◌-◌, ◌%◌, ◌<◌, ◌≤◌, ◌^◌, List, [], ◌∷◌, ◌++◌, length, Some, ◌⊎◌, inl, inr, arith, refl, sym, ◌∙◌, ap, subst, decimal, codes, append_assoc, length-append, get_or, flat_map, sum_by, AllByRecursion, append-nil, append_cancel_left, All-from_recursion, All-nil, All-cons, All-head, All-tail, All-push, decimal_by_steps, decimal_injective, Version, One, Two, Record, Spawn, Call, Return, Sync, Write, TextFault, Line, TooMany, Truncated, NestFault, NestKind, Unfinished, Fault, Text, Nest, at, depth, opens, closes, IsWellNested, newline, header, spell, AllFit, ended, line, text, IsUnended, IsOpen, IsJudged, at_end, at_length, IsNoRecord, IsBadLine, bad_header, bad_line, too_many, IsTruncated, no_header, no_line_end, HasEnded, IsMisplaced, after_end, too_deep, AreNested, none, next, IsBadPlace, bad_place, IsFirstFault, IsFaultOfAll, before_end, truncated, unfinished}
+use Rattle.dag.specs.declared.records.Record.TheVariants.{Read}
 use Rattle.trace.specs.declared.faults.TextKind.{TextKind}
-use Rattle.trace.specs.declared.faults.TextKind.TheVariants.{Line, TooMany, Truncated}
-use Rattle.trace.specs.declared.faults.NestFault.{NestFault}
-use Rattle.trace.specs.declared.faults.NestKind.{NestKind}
-use Rattle.trace.specs.declared.faults.NestKind.TheVariants.{Unfinished}
-use Rattle.trace.specs.declared.faults.Fault.{Fault}
-use Rattle.trace.specs.declared.faults.Fault.TheVariants.{Text, Nest}
-use Rattle.dag.specs.Traces.{at, depth, opens, closes, IsWellNested}
-use Rattle.trace.specs.Text.{newline, header, spell, Fits, AllFit, ended, line, text, IsUnended, IsOpen}
-use Rattle.trace.specs.Faults.{IsJudged, at_end, at_length, IsNoRecord, IsBadLine, bad_header, bad_line, too_many, IsTruncated, no_header, no_line_end, HasEnded, IsMisplaced, after_end, too_deep, AreNested, none, next, IsBadPlace, bad_place, IsFirstFault, IsFaultOfAll, before_end, truncated, unfinished}
+use Rattle.trace.specs.Text.{Fits}
 use Rattle.trace.proofs.Texts.{length-spell, length-header, unended-append}
 use Rattle.trace.proofs.Readings.{open_nil}
 use Rattle.trace.proofs.Places.{at-front, at-seam, depth-front, depth-next, depth-pushed}

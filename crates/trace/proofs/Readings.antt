@@ -1,13 +1,6 @@
 -- The fault that a step of a reader finds.
-use Rattle.std.proofs.Common.{◌≡◌, ◌≢◌, ℕ, ◌+◌, ◌-◌, ◌<◌, ◌≤◌, List, [], ◌∷◌, ◌++◌, length, take, drop, get_or, Option, Some, None, IfSome, Bool, true, false, not, is_some, IsTrue, arith, refl, sym, ◌∙◌, ap, subst, append_assoc, length-append}
-use Rattle.std.specs.Option.{option_to_list}
-use Rattle.std.proofs.lemmas.List.{append-nil, take-append-drop, length-take}
-use Rattle.dag.specs.declared.records.Version.{Version}
-use Rattle.dag.specs.declared.records.Record.{Record}
-use Rattle.trace.specs.declared.faults.TextKind.TheVariants.{Header, Line, TooMany, Truncated}
-use Rattle.trace.specs.Text.{newline, header, spell, Fits, AllFit, ended, line, text, IsUnended, IsOpen}
-use Rattle.trace.specs.Faults.{IsJudged, at_end, at_length, IsNoHeader, IsNoRecord, IsBadLine, bad_header, bad_line, too_many, IsTruncated, no_header, no_line_end}
-use Rattle.trace.specs.Reading.{Reading, AreBytes, AllFitIn, AreText, HasRead, IsBetweenLines}
+use Rattle.trace.proofs.Common.{◌≡◌, ◌≢◌, ℕ, ◌+◌, ◌-◌, ◌<◌, ◌≤◌, List, [], ◌∷◌, ◌++◌, length, take, drop, get_or, Option, Some, None, IfSome, Bool, true, false, not, is_some, IsTrue, arith, refl, sym, ◌∙◌, ap, subst, append_assoc, length-append, option_to_list, append-nil, take-append-drop, Version, Record, Header, Line, TooMany, Truncated, newline, header, spell, AllFit, ended, line, text, IsUnended, IsOpen, IsJudged, at_end, at_length, IsNoHeader, IsNoRecord, IsBadLine, bad_header, bad_line, too_many, IsTruncated, no_header, no_line_end, Reading, AreBytes, AllFitIn, AreText, HasRead, IsBetweenLines, length-take}
+use Rattle.trace.specs.Text.{Fits}
 use Rattle.trace.proofs.Texts.{length-spell, length-header, unended-append, split-ended}
 
 bytes_begun : (o : Option Version) (v : Version) (w : List Record) (rest bytes : List ℕ) → o ≡ Some v → AreBytes o w rest bytes → bytes ≡ text v w ++ rest

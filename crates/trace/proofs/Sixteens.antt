@@ -1,24 +1,13 @@
 -- Sixteen digits in a vector: which are digits, how they are moved, and the number that they write.
-use Rattle.std.proofs.Common.{◌≡◌, ◌≢◌, decimal, ℕ, zero, suc, ◌+◌, ◌-◌, ◌*◌, ◌/◌, ◌%◌, ◌^◌, ◌<◌, ◌≤◌, Bool, true, false, true≢false, not, cond, leb, w8, Fits, take_all, List, [], ◌∷◌, ◌++◌, map, length, take, drop, get_or, replicate, refl, sym, ap, subst, ◌∙◌, arith, length-take, mod-eq_of_lt, div-lt_iff_lt-mul, div-add-mod', pow-suc, bit_and}
+use Rattle.trace.proofs.Common.{◌≡◌, ◌≢◌, decimal, ℕ, zero, suc, ◌+◌, ◌-◌, ◌*◌, ◌/◌, ◌%◌, ◌^◌, ◌<◌, ◌≤◌, Bool, true, false, true≢false, not, cond, leb, w8, Fits, take_all, List, [], ◌∷◌, ◌++◌, map, length, take, drop, get_or, replicate, refl, sym, ap, subst, ◌∙◌, arith, length-take, mod-eq_of_lt, div-lt_iff_lt-mul, div-add-mod', pow-suc, bit_and, add-mul-mod_self_left, add-mul-div_left, mul-le-mul_left, div-eq_of_lt, leb-true, leb-false, length-map, ext_get_or, prefix_len-le-length, prefix_len_stops, number_lt, number_from_digits, number_from_digits_after, AllBelowBase, prefix_len, range_with_len, digit_value, AllDigits, digits_value_after, digit_value_digit, paired}
 use native.Mathlib.Decide.{dec_le}
-use Rattle.std.proofs.Math.Nat.{add-mul-mod_self_left, add-mul-div_left, mul-le-mul_left, div-eq_of_lt}
-use Rattle.std.proofs.lemmas.Bool.{leb-true, leb-false}
-use Rattle.std.proofs.lemmas.List.{length-map, ext_get_or}
 use Rattle.std.proofs.lemmas.List.FromFn.{length-map-range_with_len, get_or-map-range_with_len}
-use Rattle.std.proofs.lemmas.List.Sums.{prefix_len-le-length, prefix_len_stops}
 use Rattle.std.proofs.lemmas.Nat.{and_mask}
-use Rattle.std.proofs.lemmas.Int.Digits.{number_lt}
 use Rattle.trace.proofs.Decimals.{front_is_decimal}
 use Rattle.std.proofs.lemmas.Simd.{zip2_splat, tops_compared, zip2_splat_left, mask_l-mod, trailing_mask_l, swz_l, SwzOk}
-use Rattle.std.specs.Int.Digits.{number_from_digits, number_from_digits_after, AllBelowBase}
-use Rattle.std.specs.List.{prefix_len, range_with_len}
 use Rattle.std.specs.Prelude.{⊤}
 use lib.Count.{count_trailing_zeros}
-use Rattle.std.specs.Char.{digit_value}
-use Rattle.std.specs.Str.Parse.{AllDigits, digits_value_after}
-use Rattle.std.proofs.lemmas.Str.{digit_value_digit}
 use lib.Lanes.{Each1, mask_l, top, zip2, number_l, digits_l, chunk}
-use Rattle.trace.specs.Digits.{paired}
 use Rattle.trace.specs.declared.digits.TheConstants.{PLACES}
 
 -- ---- the values that are no digit's

@@ -1,6 +1,5 @@
 -- The digits of a number in a line.
-use Rattle.std.proofs.Common.{ℕ, ◌^◌, ◌<◌, ◌≤◌, length, decimal, arith}
-use Rattle.std.proofs.lemmas.Fmt.{length-decimal-le}
+use Rattle.trace.proofs.Common.{ℕ, ◌^◌, ◌<◌, ◌≤◌, length, decimal, arith, length-decimal-le}
 
 -- a number of 64 bits has at most 20 digits
 pub length-decimal-20 : (n : ℕ) → n < 2 ^ 64 → length (decimal n) ≤ 20

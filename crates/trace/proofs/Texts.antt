@@ -1,16 +1,7 @@
 -- Texts of traces: one more record, how long a line is, and bytes that end no line.
-use Rattle.std.proofs.Common.{◌≡◌, ◌≢◌, ℕ, ◌+◌, ◌-◌, ◌<◌, ◌≤◌, List, [], ◌∷◌, ◌++◌, length, take, drop, get_or, arith, refl, sym, ◌∙◌, ap, decimal, append_assoc, length-append, codes}
-use Rattle.std.specs.List.{flat_map}
-use Rattle.std.proofs.lemmas.Grind.{flat_map-append}
-use Rattle.std.proofs.lemmas.List.{append-nil, take-append-drop, take_more, length-drop}
-use Rattle.std.proofs.Math.Seq.{take-add, take-length}
-use Rattle.std.proofs.lemmas.List.Elements.{All-append}
-use Rattle.std.proofs.lemmas.Fmt.{length-decimal-le}
-use Rattle.dag.specs.declared.records.Version.{Version}
-use Rattle.dag.specs.declared.records.Version.TheVariants.{One, Two}
-use Rattle.dag.specs.declared.records.Record.{Record}
-use Rattle.dag.specs.declared.records.Record.TheVariants.{Spawn, Call, Return, Sync, Read, Write}
-use Rattle.trace.specs.Text.{newline, header, spell, Fits, ended, line, text, IsUnended}
+use Rattle.trace.proofs.Common.{◌≡◌, ◌≢◌, ℕ, ◌+◌, ◌-◌, ◌<◌, ◌≤◌, List, [], ◌∷◌, ◌++◌, length, take, drop, get_or, arith, refl, sym, ◌∙◌, ap, decimal, append_assoc, length-append, codes, flat_map, flat_map-append, append-nil, take-append-drop, take_more, take-add, take-length, All-append, length-decimal-le, Version, One, Two, Record, Spawn, Call, Return, Sync, Write, newline, header, spell, ended, line, text, IsUnended, length-drop}
+use Rattle.dag.specs.declared.records.Record.TheVariants.{Read}
+use Rattle.trace.specs.Text.{Fits}
 
 pub text-push : (v : Version) (w : List Record) (r : Record) → text v (w ++ r ∷ []) ≡ text v w ++ line r
 text-push v w r = ap (λ x. ended (header v) ++ x) (flat_map-append line w (r ∷ []) ∙ ap (λ x. flat_map line w ++ x) (append-nil (line r))) ∙ sym (append_assoc (ended (header v)) (flat_map line w) (line r))

@@ -1,20 +1,14 @@
 -- A walk from a place on: it knows how far it is above the least depth since, a place of the procedure at that
 -- depth, and whether a child that was spawned and returned to that depth is still pending.
-use Rattle.std.proofs.Common.{◌≡◌, ℕ, suc, ◌+◌, ◌-◌, ◌<◌, ◌≤◌, ◌↔◌, Bool, true, false, List, length, take, drop, get_or, slice_get, Option, Some, ◌⊎◌, inl, inr, refl, sym, ◌∙◌, subst, ap, arith, length-take, length-drop}
-use Rattle.std.proofs.lemmas.Bool.{cases_Bool, cases_lt, both_ways, true≢false, false≢true}
-use Rattle.std.proofs.lemmas.List.{get_or-take, get_or-drop}
-use Rattle.std.proofs.lemmas.Option.{slice_get-get_or}
-use Rattle.dag.specs.declared.records.Record.{Record}
-use Rattle.dag.specs.declared.records.Record.TheVariants.{Spawn, Call, Return, Sync, Read, Write}
-use Rattle.dag.specs.Traces.{at, depth, IsWellNested}
+use Rattle.trace.proofs.Common.{◌≡◌, ℕ, suc, ◌+◌, ◌-◌, ◌<◌, ◌≤◌, ◌↔◌, Bool, true, false, List, length, take, drop, get_or, slice_get, Option, Some, ◌⊎◌, inl, inr, refl, sym, ◌∙◌, subst, ap, arith, length-take, length-drop, cases_Bool, cases_lt, both_ways, false≢true, get_or-take, get_or-drop, slice_get-get_or, Record, Spawn, Call, Return, Sync, Write, at, depth, IsWellNested, opener_deeper, return_shallower, stays_deep, true≢false}
+use Rattle.dag.specs.declared.records.Record.TheVariants.{Read}
 use Rattle.dag.specs.Dag.{JoinsAt, IsOpenerOf, IsParallel}
 use Rattle.dag.specs.Meeting.{Opens}
 use Rattle.dag.proofs.World.{World, spawned_return, called_return, joins}
 use Rattle.dag.proofs.Traced.{traced, shape_at, opener_of, opener-is, called_shape, spawned_shape, shape-joins, joins-shape, not_joined}
 use Rattle.dag.proofs.Paths.{pending-parallel, parallel-pending}
-use Rattle.dag.proofs.Standing.{Kept, Serial, kept_stays, serial_stays, kept-above, kept_synced, returned, returned_call, serial_now, kept-pending, serial-not_pending}
+use Rattle.dag.proofs.Standing.{Kept, Serial, kept_stays, serial_stays, kept-above, kept_synced, returned, returned_call, kept-pending, serial-not_pending}
 use Rattle.dag.proofs.Meetings.{Opened, opened_at}
-use Rattle.dag.proofs.Openers.{opener_deeper, return_shallower, stays_deep}
 
 -- t records are done; the place low is of the procedure at the least depth
 pub record Walked (v : World) (i t above low : ℕ) (pending : Bool) : Type 0 where
@@ -102,21 +96,6 @@ returns_called v i t low o pending f a b h e p s = record {
   on = p.on;
   over = p.over;
 }
-
--- the walk begins at i
-pub walk_start : (w : List Record) (i t : ℕ) → i ≡ suc t → Walks w i t 0 i false
-walk_start w i t e n d h = subst (λ (z : ℕ). Walked (traced w h) z t 0 z false) (sym e) (record {
-  least = depth w (suc t);
-  reached = omega arith;
-  kept = λ q. absurd (false≢true q);
-  serial = λ _. serial_now (traced w h) t (depth w (suc t)) refl;
-  before = omega arith;
-  on = refl;
-  over = λ k x y. (let q : depth w (suc t) ≡ depth w k = ap (depth w) (only t k x y) in omega arith);
-})
-  where
-    only : (t k : ℕ) → suc t ≤ k → k ≤ suc t → suc t ≡ k
-    only t k x y = omega arith
 
 not_joins : (w : List Record) (p : ℕ) (r : Record) → at w p ≡ Some r → (r ≡ Sync → ⊥) → (r ≡ Return → ⊥) → joins (shape_at w p) ≡ true → ⊥
 not_joins w p r e n m j = by_record (shape-joins _ (at w p) j)
@@ -287,9 +266,6 @@ walk_next w i k above more low lower pending later s e g f =
     (subst (λ (y : ℕ). Walks w i (suc (i - 1 + k)) y lower later) (sym e)
     (subst (λ (y : ℕ). Walks w i (suc (i - 1 + k)) above y later) (sym g)
     (subst (λ (b : Bool). Walks w i (suc (i - 1 + k)) above low b) (sym f) s)))
-
-pub walk_first : (w : List Record) (i : ℕ) → 1 ≤ i → Walks w i (i - 1 + 0) 0 i false
-walk_first w i a = walk_start w i (i - 1 + 0) (omega arith)
 
 pub walk_last : (w : List Record) (i j k above low : ℕ) (pending : Bool) → 1 ≤ i → i < j → j ≤ length w
     → k ≤ length (take (j - 1 - (i - 1)) (drop (i - 1) w)) → length (take (j - 1 - (i - 1)) (drop (i - 1) w)) ≤ k

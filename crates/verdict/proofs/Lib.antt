@@ -1,3 +1,4 @@
+mod Common
 mod Structure
 mod Lists
 mod Strands

@@ -1,10 +1,5 @@
 -- Where the records stand of which some go: their places, and the records before them.
-use Rattle.std.proofs.Common.{◌≡◌, ℕ, zero, suc, ◌+◌, ◌<◌, ◌≤◌, Bool, true, false, cond, List, [], ◌∷◌, length, take, slice_get, Some, inl, inr, refl, sym, ap, subst, ◌∙◌, arith}
-use Rattle.std.proofs.lemmas.Bool.{cases_Bool}
-use Rattle.std.proofs.Math.Seq.{take-length, take-nil}
-use Rattle.dag.specs.declared.records.Record.{Record}
-use Rattle.verdict.specs.Repeats.{rest_from}
-use Rattle.verdict.specs.Strands.{is_structure}
+use Rattle.verdict.proofs.Common.{◌≡◌, ℕ, zero, suc, ◌+◌, ◌<◌, ◌≤◌, Bool, true, false, cond, List, [], ◌∷◌, length, take, slice_get, Some, inl, inr, refl, sym, ap, subst, ◌∙◌, arith, cases_Bool, take-length, take-nil, Record, rest_from, is_structure}
 use Rattle.verdict.proofs.Structure.{structure, get-put, get-first, take-put, take-none, le-put, lt-put, lt-first}
 
 -- how many of the first t records stay

@@ -1,12 +1,5 @@
 -- Where only needless accesses go the same locations have races.
-use Rattle.std.proofs.Common.{◌≡◌, ℕ, zero, suc, ◌<◌, ◌≤◌, ◌↔◌, Bool, true, List, take, ◌⊎◌, inl, inr, sym, subst, ◌∙◌, arith}
-use Rattle.std.proofs.lemmas.Bool.{cases_Bool, cases_lt}
-use Rattle.dag.specs.declared.records.Record.{Record}
-use Rattle.dag.specs.Traces.{at, IsWellNested}
-use Rattle.dag.specs.Races.{IsAccessPlace, IsRead, IsWrite, IsRace, HasRace, IsSecond}
-use Rattle.dag.proofs.Paths.{access-place}
-use Rattle.verdict.specs.Repeats.{IsRepeat, RepeatsGo, rest, place_in_rest}
-use Rattle.verdict.specs.Strands.{strand_of, IsCovered, IsAlone, NeedlessGo}
+use Rattle.verdict.proofs.Common.{◌≡◌, ℕ, zero, suc, ◌<◌, ◌≤◌, ◌↔◌, Bool, true, List, take, ◌⊎◌, inl, inr, sym, subst, ◌∙◌, arith, cases_Bool, cases_lt, Record, at, IsWellNested, IsAccessPlace, IsRead, IsWrite, IsRace, HasRace, IsSecond, access-place, IsRepeat, RepeatsGo, rest, place_in_rest, strand_of, IsCovered, IsAlone, NeedlessGo}
 use Rattle.verdict.proofs.Structure.{structure, number-structure}
 use Rattle.verdict.proofs.Strands.{one_strand-structure}
 use Rattle.verdict.proofs.Lists.{passed, passed-structure, passed-le, passed-lt, passed-next, rest-at}

@@ -1,13 +1,5 @@
 -- Where only accesses go the rest of a well nested trace is well nested.
-use Rattle.std.proofs.Common.{◌≡◌, ℕ, zero, suc, ◌+◌, ◌-◌, ◌<◌, ◌≤◌, Bool, true, false, List, length, Some, inl, inr, sym, ap, subst, ◌∙◌, arith}
-use Rattle.std.proofs.lemmas.Bool.{cases_Bool, cases_lt}
-use Rattle.dag.specs.declared.records.Record.{Record}
-use Rattle.dag.specs.declared.records.Record.TheVariants.{Return}
-use Rattle.dag.specs.Traces.{at, depth, IsPlace, IsRootReturn, IsWellNested}
-use Rattle.dag.specs.Races.{IsAccessPlace}
-use Rattle.dag.proofs.Lists.{element_at}
-use Rattle.dag.proofs.Paths.{IsPlace-at}
-use Rattle.verdict.specs.Repeats.{rest}
+use Rattle.verdict.proofs.Common.{◌≡◌, ℕ, zero, suc, ◌+◌, ◌-◌, ◌<◌, ◌≤◌, Bool, true, false, List, length, Some, inl, inr, sym, ap, subst, ◌∙◌, arith, cases_Bool, cases_lt, Record, Return, at, depth, IsPlace, IsRootReturn, IsWellNested, IsAccessPlace, element_at, IsPlace-at, rest}
 use Rattle.verdict.proofs.Structure.{same_depth}
 use Rattle.verdict.proofs.Strands.{no_structure}
 use Rattle.verdict.proofs.Lists.{passed, AccessesGo, accesses_go, passed-structure, rest-at, rest-shorter, passed-le, passed-next, passed-all, comes_from}

@@ -1,18 +1,8 @@
 -- The report of a part: the verdict on the trace at the part's locations.
-use Rattle.std.proofs.Common.{◌≡◌, ℕ, ◌%◌, ◌↔◌, Bool, true, eqb, filter, List, [], ◌∷◌, inl, inr, ⊎_elim, sym, ap, subst, ◌∙◌}
-use Rattle.std.specs.List.{AllByRecursion}
-use Rattle.std.proofs.lemmas.Bool.{cases_Bool, cond-true, cond-false, eq-eqb, eqb-true}
-use Rattle.dag.specs.declared.records.Record.{Record}
+use Rattle.verdict.proofs.Common.{◌≡◌, ℕ, ◌%◌, ◌↔◌, Bool, true, eqb, filter, List, [], ◌∷◌, inl, inr, ⊎_elim, sym, ap, subst, ◌∙◌, AllByRecursion, cases_Bool, cond-true, cond-false, eq-eqb, eqb-true, Record, RaceAt, IsWellNested, HasRace, verdict, racy, HasLocation, IsPartReportOf}
 use Rattle.dag.specs.declared.part.Part.{Part}
-use Rattle.dag.specs.Accesses.{RaceAt}
-use Rattle.dag.specs.Traces.{IsWellNested}
 use Rattle.dag.specs.Parts.{races_of_part}
-use Rattle.dag.specs.Races.{HasRace}
 use Rattle.dag.proofs.Once.{In, In_from, Contains_from}
-use Rattle.shadow.specs.Found.{verdict}
-use Rattle.shadow.proofs.Headlines.{racy}
-use Rattle.verdict.specs.Racy.{HasLocation}
-use Rattle.verdict.specs.Reported.{IsPartReportOf}
 
 abbrev pub is_own : Part → RaceAt → Bool
 is_own part r = eqb (r.location % part.count) part.index

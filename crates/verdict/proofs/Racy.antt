@@ -1,10 +1,5 @@
 -- Where for each access of a location another trace has one in the same strand, the races of the location are there too.
-use Rattle.std.proofs.Common.{◌≡◌, ℕ, zero, suc, ◌-◌, ◌<◌, List, length, take, ◌⊎◌, inl, inr, refl, sym, ap, ◌∙◌, arith}
-use Rattle.std.proofs.lemmas.Bool.{cases_lt}
-use Rattle.dag.specs.declared.records.Record.{Record}
-use Rattle.dag.specs.Traces.{at, IsWellNested}
-use Rattle.dag.specs.Races.{IsRead, IsWrite, IsRace, HasRace}
-use Rattle.dag.proofs.Paths.{access-place}
+use Rattle.verdict.proofs.Common.{◌≡◌, ℕ, zero, suc, ◌-◌, ◌<◌, List, length, take, ◌⊎◌, inl, inr, refl, sym, ap, ◌∙◌, arith, cases_lt, Record, at, IsWellNested, IsRead, IsWrite, IsRace, HasRace, access-place}
 use Rattle.verdict.proofs.Structure.{structure, number, number-le}
 use Rattle.verdict.proofs.Strands.{one_strand, strand_leads, parallel-moved}
 

@@ -1,17 +1,9 @@
 -- Where accesses of one strand change their order the trace stays well nested, and the same locations have races.
-use Rattle.std.proofs.Common.{◌≡◌, ℕ, zero, suc, ◌<◌, ◌≤◌, ◌↔◌, Bool, true, false, cond, List, [], ◌∷◌, ◌++◌, length, take, slice_get, Some, inl, inr, refl, sym, ap, subst, ◌∙◌, length-append, arith}
-use Rattle.std.specs.List.{All, Contains}
+use Rattle.verdict.proofs.Common.{◌≡◌, ℕ, zero, suc, ◌<◌, ◌≤◌, ◌↔◌, Bool, true, false, cond, List, [], ◌∷◌, ◌++◌, length, take, slice_get, Some, inl, inr, refl, sym, ap, subst, ◌∙◌, length-append, arith, All, Contains, cases_lt, Record, Return, depth, IsPlace, IsRootReturn, IsWellNested, HasRace, element_at, slice_get-front, is_structure, IsReordered}
 use Rattle.std.specs.List.Sorted.{IsPermutation}
-use Rattle.std.proofs.lemmas.Bool.{cases_lt}
 use Rattle.std.proofs.lemmas.List.Elements.{All-head, All-tail}
 use Rattle.std.proofs.lemmas.List.Sorted.{IsPermutation-sym, length_permutation, All-permutation, Contains-permutation}
 use Rattle.std.proofs.lemmas.Option.{get_or_from_slice_get, slice_get-get_or, slice_get_within}
-use Rattle.dag.specs.declared.records.Record.{Record}
-use Rattle.dag.specs.declared.records.Record.TheVariants.{Return}
-use Rattle.dag.specs.Traces.{depth, IsPlace, IsRootReturn, IsWellNested}
-use Rattle.dag.specs.Races.{HasRace}
-use Rattle.dag.proofs.Lists.{element_at, slice_get-front}
-use Rattle.verdict.specs.Strands.{is_structure, IsReordered}
 use Rattle.verdict.proofs.Structure.{structure, take-none, same_depth}
 use Rattle.verdict.proofs.Racy.{Accesses, Stands, racy-stands}
 

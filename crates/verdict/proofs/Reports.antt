@@ -1,14 +1,6 @@
 -- The report of a trace by the races found in it.
-use Rattle.std.proofs.Common.{◌≡◌, ◌↔◌, ℕ, suc, ◌+◌, List, [], ◌∷◌, ◌++◌, length, sym, ◌∙◌, ap, subst, arith}
-use Rattle.dag.specs.declared.records.Record.{Record}
+use Rattle.verdict.proofs.Common.{◌≡◌, ◌↔◌, ℕ, suc, ◌+◌, List, [], ◌∷◌, ◌++◌, length, sym, ◌∙◌, ap, subst, arith, Record, RaceAt, placed, placed_from, IsWellNested, HasRace, IsReport, found, by_location, verdict_is_report, racy, HasLocation, IsReportOf}
 use Rattle.dag.specs.declared.records.Placed.{Placed}
-use Rattle.dag.specs.Accesses.{RaceAt}
-use Rattle.dag.specs.Traces.{placed, placed_from, IsWellNested}
-use Rattle.dag.specs.Races.{HasRace, IsReport}
-use Rattle.shadow.specs.Found.{found, by_location}
-use Rattle.shadow.proofs.Headlines.{verdict_is_report, racy}
-use Rattle.verdict.specs.Racy.{HasLocation}
-use Rattle.verdict.specs.Reported.{IsReportOf}
 
 -- the records of a list that is longer by one
 placed-push : (i : ℕ) (w : List Record) (r : Record) → placed_from i (w ++ r ∷ []) ≡ placed_from i w ++ record { place = i + length w; what = r } ∷ []

@@ -1,17 +1,8 @@
 -- Accesses of one strand: no structure record between, and a path from each to the next.
-use Rattle.std.proofs.Common.{false, Some, ◌≡◌, ℕ, zero, suc, ◌+◌, ◌<◌, ◌≤◌, true, ◌↔◌, List, [], ◌∷◌, length, take, inl, inr, refl, sym, ap, subst, ◌∙◌, arith}
-use Rattle.std.proofs.lemmas.Bool.{cases_Bool, cases_lt}
-use Rattle.dag.specs.declared.records.Record.{Record}
-use Rattle.dag.specs.declared.records.Record.TheVariants.{Spawn, Call, Return, Sync, Read, Write}
-use Rattle.dag.specs.Traces.{at, depth, IsWellNested}
+use Rattle.verdict.proofs.Common.{false, Some, ◌≡◌, ℕ, zero, suc, ◌+◌, ◌<◌, ◌≤◌, true, ◌↔◌, List, [], ◌∷◌, length, take, inl, inr, refl, sym, ap, subst, ◌∙◌, arith, cases_Bool, cases_lt, Record, Spawn, Call, Return, Sync, Read, Write, at, depth, IsWellNested, IsAccessPlace, element_at, access-place, access-not_joins, in_p, current, is_structure}
 use Rattle.dag.specs.Dag.{Edge, continuation, Leads, IsParallel}
-use Rattle.dag.specs.Races.{IsAccessPlace}
-use Rattle.dag.proofs.Lists.{element_at}
 use Rattle.dag.proofs.Openers.{stays_deep}
-use Rattle.dag.proofs.Paths.{access-place, access-not_joins}
-use Rattle.bags.specs.Procedures.{in_p, current}
 use Rattle.bags.proofs.BagPaths.{in_p-parallel}
-use Rattle.verdict.specs.Strands.{is_structure}
 use Rattle.verdict.proofs.Structure.{structure, number, number-le, number-lt, access-structure, bags_at, same_bags}
 
 -- only accesses stand after place s and up to place t

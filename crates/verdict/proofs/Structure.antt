@@ -1,14 +1,7 @@
 -- The structure records of a trace: they alone say which bags there are, how deep a place lies and which strand it
 -- belongs to.
-use Rattle.std.proofs.Common.{◌≡◌, ℕ, zero, suc, ◌-◌, ◌<◌, ◌≤◌, Bool, true, false, cond, List, [], ◌∷◌, length, take, slice_get, Some, refl, sym, ap, subst, ◌∙◌, arith}
-use Rattle.std.specs.List.{sum_by, filter}
-use Rattle.std.proofs.Math.Seq.{take-nil}
+use Rattle.verdict.proofs.Common.{◌≡◌, ℕ, zero, suc, ◌-◌, ◌<◌, ◌≤◌, Bool, true, false, cond, List, [], ◌∷◌, length, take, slice_get, Some, refl, sym, ap, subst, ◌∙◌, arith, sum_by, take-nil, Record, Spawn, Call, Return, Sync, Read, Write, opens, closes, depth, placed, placed_from, Procedures, event, bags_from, bags_after, at_start, is_structure, filter}
 use Rattle.std.proofs.lemmas.List.Sums.{sum_by-append}
-use Rattle.dag.specs.declared.records.Record.{Record}
-use Rattle.dag.specs.declared.records.Record.TheVariants.{Spawn, Call, Return, Sync, Read, Write}
-use Rattle.dag.specs.Traces.{opens, closes, depth, placed, placed_from}
-use Rattle.bags.specs.Procedures.{Procedures, event, bags_from, bags_after, at_start}
-use Rattle.verdict.specs.Strands.{is_structure}
 
 -- one record in front, which stays or not
 

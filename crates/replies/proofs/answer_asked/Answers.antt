@@ -1,5 +1,4 @@
-use Rattle.std.specs.Prelude.{⊤, None}
-use Rattle.replies.specs.Inputs.{known_bytes}
+use Rattle.replies.proofs.Common.{⊤, None, known_bytes}
 use Rattle.replies.proofs.Opened.{answered_so}
 use Rattle.replies.proofs.answer_asked.Goals as goal
 

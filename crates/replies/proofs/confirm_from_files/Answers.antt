@@ -1,9 +1,4 @@
-use Rattle.std.proofs.Common.{ℕ, sym, ap, ◌∙◌, subst, inl, inr}
-use Rattle.std.specs.Io.Buffered.{reader_remaining}
-use Rattle.std.specs.Fn.{FnReturnsAt}
-use Rattle.trace.specs.Devices.{◌⇝◌}
-use Rattle.replies.specs.Files.{HasConfirmedOpened}
-use Rattle.replies.specs.Inputs.{known_bytes}
+use Rattle.replies.proofs.Common.{ℕ, sym, ap, ◌∙◌, subst, inl, inr, reader_remaining, FnReturnsAt, ◌⇝◌, HasConfirmedOpened, known_bytes}
 use Rattle.replies.proofs.Named.{not_opened, report_unread, answered_both, nothing_ahead, is_untried}
 use Rattle.replies.proofs.confirm_from_files.Goals as goal
 

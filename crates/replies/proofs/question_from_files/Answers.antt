@@ -1,9 +1,4 @@
-use Rattle.std.proofs.Common.{ℕ, sym, ap, ◌∙◌, subst, inl, inr}
-use Rattle.std.specs.Io.Buffered.{reader_remaining}
-use Rattle.std.specs.Fn.{FnReturnsAt}
-use Rattle.trace.specs.Devices.{◌⇝◌}
-use Rattle.replies.specs.Files.{HasAnsweredOpened}
-use Rattle.replies.specs.Inputs.{known_bytes}
+use Rattle.replies.proofs.Common.{ℕ, sym, ap, ◌∙◌, subst, inl, inr, reader_remaining, FnReturnsAt, ◌⇝◌, HasAnsweredOpened, known_bytes}
 use Rattle.replies.proofs.Named.{not_opened, trace_unread, answered_alone, nothing_ahead, is_untried}
 use Rattle.replies.proofs.question_from_files.Goals as goal
 

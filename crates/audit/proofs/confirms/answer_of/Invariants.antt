@@ -1,6 +1,4 @@
-use Rattle.std.proofs.Common.{◌≡◌, ◌<◌, ℕ, Some, slice_get}
-use Rattle.audit.specs.declared.confirms.Entry.{Entry}
-use Rattle.audit.specs.declared.confirms.Standing.TheVariants.{Confirmed}
+use Rattle.audit.proofs.Common.{◌≡◌, ◌<◌, ℕ, Some, slice_get, Entry, Confirmed}
 use Rattle.audit.proofs.confirms.answer_of.Given as goal
 
 abbrev pub invariant-loop-index : goal.invariant-loop-index

@@ -1,7 +1,4 @@
-use Rattle.std.proofs.Common.{List, refl, subst}
-use Rattle.dag.specs.Accesses.{RaceAt}
-use Rattle.trace.proofs.Endings.{ends_refused, refused_for_want}
-use Rattle.audit.specs.Entries.{HasConfirmed}
+use Rattle.audit.proofs.Common.{List, refl, subst, RaceAt, ends_refused, refused_for_want, HasConfirmed}
 use Rattle.audit.proofs.ConfirmLemmas.{answer_of}
 use Rattle.audit.proofs.confirms.confirm.Goals as goal
 

@@ -1,7 +1,4 @@
-use Rattle.std.proofs.Common.{rules, nat_lt, arith, ap, ◌∙◌}
-use Rattle.std.proofs.lemmas.List.Sorted.{IsPartitionPoint-from_clause}
-use Rattle.std.proofs.lemmas.Option.{slice_get_within, get_or_from_slice_get}
-use Rattle.audit.specs.declared.confirms.Entry.{Entry}
+use Rattle.audit.proofs.Common.{rules, nat_lt, arith, ap, ◌∙◌, IsPartitionPoint-from_clause, slice_get_within, get_or_from_slice_get, Entry}
 use Rattle.audit.proofs.ConfirmLemmas.{nowhere, partitioned}
 use Rattle.audit.proofs.confirms.find_entry.Goals as goal
 use Rattle.audit.proofs.confirms.find_entry.Goals.{else-index-entries-via-then-index-entries+else-entries-index, else-index-entries-via-else-index-entries}

@@ -1,6 +1,4 @@
-use Rattle.std.proofs.Common.{suc, length, sym, subst}
-use Rattle.audit.specs.declared.confirms.Standing.{Standing}
-use Rattle.audit.specs.Entries.{HasStanding, entry_race}
+use Rattle.audit.proofs.Common.{suc, length, sym, subst, Standing, HasStanding, entry_race}
 use Rattle.audit.proofs.ConfirmLemmas.{begins, confirmed, not_confirmed, begun_stays, access-true, access-false}
 use Rattle.audit.proofs.confirms.next_standing.Goals as goal
 

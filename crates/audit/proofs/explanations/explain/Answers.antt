@@ -1,5 +1,4 @@
-use Rattle.std.proofs.Common.{ℕ, subst}
-use Rattle.audit.specs.Explaining.{HasExplained}
+use Rattle.audit.proofs.Common.{ℕ, subst, HasExplained}
 use Rattle.audit.proofs.ExplainLemmas.{explains, race_shape}
 use Rattle.audit.proofs.explanations.explain.Goals as goal
 

@@ -1,6 +1,4 @@
-use Rattle.std.proofs.Common.{◌≡◌, ◌≤◌, List, length, drop, nat_lt, refl, arith, subst, rules}
-use Rattle.std.proofs.lemmas.List.Sorted.{IsPartitionPoint-from_clause}
-use Rattle.audit.specs.declared.answers.Opener.{Opener}
+use Rattle.audit.proofs.Common.{◌≡◌, ◌≤◌, List, length, drop, nat_lt, refl, arith, subst, rules, IsPartitionPoint-from_clause, Opener}
 use Rattle.audit.proofs.TrailLemmas.{IsOpenerCount, IsLastOpener, last_opener, no_opener}
 use Rattle.audit.proofs.ExplainLemmas.{reports_it}
 use Rattle.audit.proofs.explanations.reported_of.Goals as goal

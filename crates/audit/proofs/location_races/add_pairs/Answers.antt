@@ -1,7 +1,4 @@
-use Rattle.std.proofs.Common.{◌≡◌, ◌+◌, ℕ, List, length, subst, sym, ◌∙◌, ap, arith}
-use Rattle.std.proofs.lemmas.Option.{slice_get-get_or}
-use Rattle.dag.specs.declared.records.Access.{Access}
-use Rattle.audit.specs.Pairing.{AddsPairs}
+use Rattle.audit.proofs.Common.{◌≡◌, ◌+◌, ℕ, List, length, subst, sym, ◌∙◌, ap, arith, slice_get-get_or, Access, AddsPairs}
 use Rattle.audit.proofs.PairLemmas.{adds_pair, adds_no_read, adds_no_parallel}
 use Rattle.audit.proofs.location_races.add_pairs.Goals as goal
 use Rattle.audit.proofs.location_races.add_pairs.Goals.{then-one_writes+then-is_parallel+in_ok-push, else-one_writes, else-one_writes-via-then-one_writes+else-is_parallel, else-one_writes-via-else-one_writes}

@@ -1,6 +1,4 @@
-use Rattle.std.proofs.Common.{ℕ, subst}
-use Rattle.trace.proofs.Endings.{ends_refused}
-use Rattle.audit.specs.Pairing.{HasPaired}
+use Rattle.audit.proofs.Common.{ℕ, subst, ends_refused, HasPaired}
 use Rattle.audit.proofs.PairLemmas.{pairs_of}
 use Rattle.audit.proofs.location_races.pairs.Goals as goal
 

@@ -1,5 +1,4 @@
-use Rattle.std.proofs.Common.{◌≤◌, arith}
-use Rattle.trace.proofs.Endings.{ends_refused}
+use Rattle.audit.proofs.Common.{◌≤◌, arith, ends_refused}
 use Rattle.audit.proofs.Measured.{measure_of, depth_fits}
 use Rattle.audit.proofs.measures.measure.Goals as goal
 

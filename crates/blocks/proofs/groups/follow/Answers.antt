@@ -1,7 +1,4 @@
-use Rattle.std.proofs.Common.{◌≡◌, ◌∙◌, ◌+◌, ◌-◌, get_or, drop, ap, sym, arith}
-use Rattle.std.proofs.lemmas.List.{get_or_read}
-use Rattle.blocks.specs.Masks.{has}
-use Rattle.blocks.specs.Groups.{names_at, no_group, AreKnown}
+use Rattle.blocks.proofs.Common.{◌≡◌, ◌∙◌, ◌+◌, ◌-◌, get_or, drop, ap, sym, arith, get_or_read, has, names_at, no_group, AreKnown}
 use Rattle.blocks.proofs.Bits.{has_and}
 use Rattle.blocks.proofs.Renames.{known_here, and_first, and_second, rename_past, rename_stays, rename_changes}
 use Rattle.blocks.proofs.groups.follow.Goals as goal

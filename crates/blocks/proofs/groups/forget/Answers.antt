@@ -1,8 +1,4 @@
-use Rattle.std.proofs.Common.{◌≡◌, ◌∙◌, ℕ, ◌<◌, ◌-◌, ◌&&◌, not, get_or, length, ap, sym, subst, arith}
-use Rattle.std.proofs.lemmas.List.{get_or_read}
-use Rattle.blocks.specs.Masks.{has}
-use Rattle.blocks.specs.Groups.{no_group}
-use Rattle.blocks.specs.declared.groups.Group.{Group}
+use Rattle.blocks.proofs.Common.{◌≡◌, ◌∙◌, ℕ, ◌<◌, ◌-◌, ◌&&◌, not, get_or, length, ap, sym, subst, arith, get_or_read, has, no_group, Group}
 use Rattle.blocks.proofs.Forgets.{HasForgotten, same_group, forget_left, forget_gone}
 use Rattle.blocks.proofs.groups.forget.Goals as goal
 

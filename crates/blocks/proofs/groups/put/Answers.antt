@@ -1,8 +1,4 @@
-use Rattle.std.proofs.Common.{◌≡◌, drop, set, get_or, Some, cond, subst}
-use Rattle.std.proofs.lemmas.List.{get_or_read}
-use Rattle.blocks.specs.Masks.{has}
-use Rattle.blocks.specs.Groups.{names_at, no_group, IsAlike}
-use Rattle.blocks.specs.declared.step.Names.{Names}
+use Rattle.blocks.proofs.Common.{◌≡◌, drop, set, get_or, Some, cond, subst, get_or_read, has, names_at, no_group, IsAlike, Names}
 use Rattle.blocks.proofs.Puts.{with_units, grown_behind, added_behind}
 use Rattle.blocks.proofs.groups.put.Goals as goal
 

@@ -1,5 +1,4 @@
-use Rattle.std.proofs.Common.{◌∙◌, sym, arith}
-use Rattle.blocks.specs.Groups.{AreKnown}
+use Rattle.blocks.proofs.Common.{◌∙◌, sym, arith, AreKnown}
 use Rattle.blocks.proofs.Looks.{look_begins, known_inside, look_racy, look_calm, look_past, look_ends, look_done}
 use Rattle.blocks.proofs.groups.racy_units.Goals as goal
 

@@ -1,9 +1,4 @@
-use Rattle.std.proofs.Common.{◌≡◌, ◌∙◌, suc, ◌+◌, ◌<◌, ◌∷◌, ◌++◌, take, drop, set, get_or, length, length-set, add-one, Some, cond, ap, sym, arith}
-use Rattle.std.proofs.lemmas.List.{get_or_read, get_or-take}
-use Rattle.std.proofs.Math.Seq.{drop-cons}
-use Rattle.blocks.specs.Masks.{has}
-use Rattle.blocks.specs.Groups.{names_at, no_group, IsAlike}
-use Rattle.blocks.specs.declared.groups.Group.{Group}
+use Rattle.blocks.proofs.Common.{◌≡◌, ◌∙◌, suc, ◌+◌, ◌<◌, ◌∷◌, ◌++◌, take, drop, set, get_or, length, length-set, add-one, Some, cond, ap, sym, arith, get_or_read, get_or-take, drop-cons, has, names_at, no_group, IsAlike, Group}
 use Rattle.blocks.proofs.Puts.{with_units, without_units, grown_behind, put_before, parted, gone, none_later, drop_set, behind_all}
 use Rattle.blocks.proofs.Entries.{on_err}
 use Rattle.blocks.proofs.groups.rename.Goals as goal

@@ -1,8 +1,4 @@
-use Rattle.std.proofs.Common.{◌≡◌, ◌<◌, ℕ, is_some, arith}
-use Rattle.std.specs.Int.RustNames.{bit_or}
-use Rattle.blocks.specs.Masks.{has}
-use Rattle.blocks.specs.Steps.{touched_names, no_steps}
-use Rattle.blocks.specs.Groups.{names_at, names_of, names_of_touched}
+use Rattle.blocks.proofs.Common.{◌≡◌, ◌<◌, ℕ, is_some, arith, bit_or, has, touched_names, no_steps, names_at, names_of, names_of_touched}
 use Rattle.blocks.proofs.Puts.{put_before, none_later}
 use Rattle.blocks.proofs.Renames.{all_touched, partly_of, partly_more, untouched_none, none_fresh}
 use Rattle.blocks.proofs.groups.touch.Goals as goal

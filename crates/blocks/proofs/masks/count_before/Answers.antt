@@ -1,5 +1,4 @@
-use Rattle.std.proofs.Common.{arith}
-use Rattle.std.proofs.lemmas.Nat.Bits.{shr_and_one, bit_at-lt}
+use Rattle.blocks.proofs.Common.{arith, shr_and_one, bit_at-lt}
 use Rattle.blocks.proofs.Counts.{before-le}
 use Rattle.blocks.proofs.masks.count_before.Goals as goal
 

@@ -1,5 +1,4 @@
-use Rattle.std.proofs.Common.{◌≡◌}
-use Rattle.blocks.specs.Masks.{units_before}
+use Rattle.blocks.proofs.Common.{◌≡◌, units_before}
 use Rattle.blocks.proofs.masks.count_before.Given as goal
 
 abbrev pub invariant-loop-before : goal.invariant-loop-before

@@ -1,5 +1,4 @@
-use Rattle.std.proofs.Common.{◌∙◌, ◌&&◌, ap}
-use Rattle.blocks.specs.Masks.{has}
+use Rattle.blocks.proofs.Common.{◌∙◌, ◌&&◌, ap, has}
 use Rattle.blocks.proofs.Bits.{has_and, has_not}
 use Rattle.blocks.proofs.masks.without.Goals as goal
 

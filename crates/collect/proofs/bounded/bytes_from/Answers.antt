@@ -1,5 +1,4 @@
-use Rattle.std.proofs.Common.{arith}
-use Rattle.collect.specs.declared.bounded.ReportRefusal.TheVariants.{TooLarge}
+use Rattle.collect.proofs.Common.{arith, TooLarge}
 use Rattle.collect.proofs.Refusals.{refused_for}
 use Rattle.collect.proofs.bounded.bytes_from.Goals as goal
 

@@ -1,6 +1,4 @@
-use Rattle.std.proofs.Common.{◌+◌, ◌≤◌, ◌-◌, length}
-use Rattle.trace.specs.Devices.{◌⇝◌, Gave, IsSteady}
-use Rattle.collect.specs.ReportBytes.{most_report_bytes}
+use Rattle.collect.proofs.Common.{◌+◌, ◌≤◌, ◌-◌, length, ◌⇝◌, Gave, IsSteady, most_report_bytes}
 use Rattle.collect.proofs.bounded.bytes_from.Given as goal
 
 abbrev pub invariant-loop-bytes : goal.invariant-loop-bytes

@@ -1,5 +1,4 @@
-use Rattle.std.proofs.Common.{◌≡◌, ◌≢◌, ℕ, List, ◌++◌, Bor}
-use Rattle.std.proofs.lemmas.Bool.Decides.{Decides-eqb}
+use Rattle.collect.proofs.Common.{◌≡◌, ◌≢◌, ℕ, List, ◌++◌, Bor, Decides-eqb}
 use Rattle.std.proofs.lemmas.Slice.Eq.{strip_prefix_is}
 use Rattle.collect.proofs.Fronts.{IfSome-of, IfNone-of}
 use Rattle.collect.proofs.readers.after_word.Goals as goal

@@ -1,5 +1,4 @@
-use Rattle.std.proofs.Common.{true, Some, ap, ◌∙◌, ltb}
-use Rattle.std.specs.Option.{option_map_or}
+use Rattle.collect.proofs.Common.{true, Some, ap, ◌∙◌, ltb, option_map_or}
 use Rattle.collect.proofs.readers.may_follow.Goals as goal
 
 pub returns-in-Some : goal.returns-in-Some

@@ -1,6 +1,4 @@
-use Rattle.std.proofs.Common.{◌≡◌, ◌+◌, ◌++◌, length, arith, sym, ap, ◌∙◌, append-nil}
-use Rattle.collect.specs.ReportText.{rtext}
-use Rattle.collect.specs.ReportFaults.{no_head}
+use Rattle.collect.proofs.Common.{◌≡◌, ◌+◌, ◌++◌, length, arith, sym, ap, ◌∙◌, append-nil, rtext, no_head}
 use Rattle.collect.proofs.Listed.{room_for_line, no_report, bad_race, bad_end, whole_text, few_races, one_list, is_empty_list, not_empty_list}
 use Rattle.collect.proofs.readers.read_report.Goals as goal
 

@@ -1,6 +1,4 @@
-use Rattle.std.proofs.Common.{◌≡◌, ◌-◌, ◌≤◌, ◌++◌, length}
-use Rattle.collect.specs.Reports.{IsReportList}
-use Rattle.collect.specs.ReportText.{head, race_lines}
+use Rattle.collect.proofs.Common.{◌≡◌, ◌-◌, ◌≤◌, ◌++◌, length, IsReportList, head, race_lines}
 use Rattle.collect.proofs.readers.read_report.Given as goal
 
 abbrev pub invariant-loop-races : goal.invariant-loop-races

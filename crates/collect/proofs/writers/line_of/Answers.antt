@@ -1,5 +1,4 @@
-use Rattle.std.proofs.Common.{◌<◌, ◌^◌, arith}
-use Rattle.trace.proofs.SpelledLines.{length-decimal-20}
+use Rattle.collect.proofs.Common.{◌<◌, ◌^◌, arith, length-decimal-20}
 use Rattle.collect.proofs.writers.line_of.Goals as goal
 
 pub number-requires : goal.number-requires

@@ -1,8 +1,4 @@
-use Rattle.std.proofs.Common.{◌≡◌, Err, length, subst, rules}
-use Rattle.dag.specs.Accesses.{RaceAt}
-use Rattle.trace.specs.Devices.{◌⇝◌}
-use Rattle.trace.specs.Writers.{Took, TookFront}
-use Rattle.collect.specs.ReportText.{head, race_line, race_lines}
+use Rattle.collect.proofs.Common.{◌≡◌, Err, length, subst, rules, RaceAt, ◌⇝◌, Took, TookFront, head, race_line, race_lines}
 use Rattle.collect.proofs.Takings.{front_more, took_line, front_line}
 use Rattle.collect.proofs.writers.write_report.Goals as goal
 

@@ -1,7 +1,4 @@
-use Rattle.std.proofs.Common.{◌++◌, length, take}
-use Rattle.trace.specs.Devices.{◌⇝◌}
-use Rattle.trace.specs.Writers.{Took}
-use Rattle.collect.specs.ReportText.{head, race_lines}
+use Rattle.collect.proofs.Common.{◌++◌, length, take, ◌⇝◌, Took, head, race_lines}
 use Rattle.collect.proofs.writers.write_report.Given as goal
 
 abbrev pub invariant-loop-race : goal.invariant-loop-race

@@ -1,5 +1,4 @@
-use Rattle.dag.specs.Traces.{placed}
-use Rattle.dag.specs.Parts.{records_of}
+use Rattle.detect_plain.proofs.Common.{placed, records_of}
 use Rattle.detect_plain.proofs.PartReports.{fit_part, part_report}
 use Rattle.detect_plain.proofs.plain.detect_plain_part.Goals as goal
 

@@ -1,6 +1,4 @@
-use Rattle.std.proofs.Common.{◌≡◌, ◌∙◌, subst, arith}
-use Rattle.shadow.specs.Shadow.{kept_of}
-use Rattle.blocks.proofs.Bits.{has_if, has_unless}
+use Rattle.online.proofs.Common.{◌≡◌, ◌∙◌, subst, arith, kept_of, has_if, has_unless}
 use Rattle.online.proofs.Forgotten.{AreForgotten, forgets_same, forgets_one, forgets_all}
 use Rattle.online.proofs.detector.forget_cells.Goals as goal
 use Rattle.online.proofs.detector.forget_cells.Goals.{then-units-unit-eq1, else-units-unit-eq1}

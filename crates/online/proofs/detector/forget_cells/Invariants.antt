@@ -1,5 +1,4 @@
-use Rattle.std.proofs.Common.{◌≡◌}
-use Rattle.shadow.specs.Shadow.{kept_of, last_place_of, least_count_of}
+use Rattle.online.proofs.Common.{◌≡◌, kept_of, last_place_of, least_count_of}
 use Rattle.online.proofs.Forgotten.{AreForgotten}
 use Rattle.online.proofs.detector.forget_cells.Given as goal
 

@@ -1,7 +1,4 @@
-use Rattle.std.proofs.Common.{List, ◌++◌, map, take}
-use Rattle.dag.specs.declared.back.Back.{Back}
-use Rattle.dag.specs.declared.back.Back.TheVariants.{Race}
-use Rattle.collect.specs.Collected.{KeepsBest}
+use Rattle.online.proofs.Common.{List, ◌++◌, map, take, Back, Race, KeepsBest}
 use Rattle.online.proofs.detector.take_all.Given as goal
 
 abbrev pub invariant-loop-race : goal.invariant-loop-race

@@ -1,6 +1,4 @@
-use Rattle.std.proofs.Common.{◌≡◌, ◌∙◌, ◌/◌, ◌%◌, ◌*◌, ◌^◌, ◌<◌, ap, arith}
-use Rattle.std.specs.Int.RustNames.{count_ones}
-use Rattle.std.proofs.lemmas.Nat.{one_shl}
+use Rattle.online.proofs.Common.{◌≡◌, ◌∙◌, ◌/◌, ◌%◌, ◌*◌, ◌^◌, ◌<◌, ap, arith, count_ones, one_shl}
 use Rattle.online.proofs.Alone.{one_unit, one_accessed}
 use Rattle.online.proofs.detector.unit_of.Goals as goal
 

@@ -1,6 +1,4 @@
-use Rattle.std.proofs.Common.{◌≡◌, ◌↔◌, List, [], refl, subst}
-use Rattle.dag.specs.Accesses.{RaceAt}
-use Rattle.collect.specs.ReportText.{rtext}
+use Rattle.replies.proofs.Common.{◌≡◌, ◌↔◌, List, [], refl, subst, RaceAt, rtext}
 use Rattle.replies.proofs.Statuses.{check_answered}
 use Rattle.replies.proofs.Endings.{untouched, says_of_nested, answered, refused}
 use Rattle.replies.proofs.answers.answer_check.Goals as goal

@@ -1,5 +1,4 @@
-use Rattle.std.proofs.Common.{◌<◌, arith, refl}
-use Rattle.texts.specs.Texts.{confirm_text}
+use Rattle.replies.proofs.Common.{◌<◌, arith, refl, confirm_text}
 use Rattle.replies.proofs.Endings.{untouched, says_so, answered, refused, status_low}
 use Rattle.replies.proofs.confirms.answer_entries.Goals as goal
 

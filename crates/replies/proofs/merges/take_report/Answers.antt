@@ -1,14 +1,6 @@
-use Rattle.std.proofs.Common.{◌≡◌, ℕ, List, Option, Result, Ok, Err, IsErrAnd, refl, sym, ap, subst, inl, inr}
-use Rattle.std.specs.Prelude.{MatchResult}
-use Rattle.dag.specs.Accesses.{RaceAt}
-use Rattle.trace.specs.Devices.{Device, ◌⇝◌}
-use Rattle.collect.specs.declared.bounded.ReportRefusal.{ReportRefusal}
+use Rattle.replies.proofs.Common.{◌≡◌, ℕ, List, Option, Result, Ok, Err, IsErrAnd, refl, sym, ap, subst, inl, inr, MatchResult, RaceAt, Device, ◌⇝◌, ReportRefusal, refused_for, Input, StandsFor, known_bytes, untried, HasReadReport, IsRefusedReport}
 use Rattle.collect.specs.declared.bounded.ReportRefusal.TheVariants as refusals
 use Rattle.collect.specs.ReportBytes.{GivesReport, IsRefusal}
-use Rattle.collect.proofs.Refusals.{refused_for}
-use Rattle.replies.specs.declared.input.Input.{Input}
-use Rattle.replies.specs.Inputs.{StandsFor, known_bytes, untried}
-use Rattle.replies.specs.Merges.{HasReadReport, IsRefusedReport}
 use Rattle.replies.proofs.Named.{is_untried}
 use Rattle.replies.proofs.merges.take_report.Goals as goal
 

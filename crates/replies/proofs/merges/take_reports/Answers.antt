@@ -1,6 +1,4 @@
-use Rattle.std.proofs.Common.{ap, ◌+◌}
-use Rattle.std.specs.Fn.{FnReturnsAt}
-use Rattle.replies.specs.Inputs.{known_bytes}
+use Rattle.replies.proofs.Common.{ap, ◌+◌, FnReturnsAt, known_bytes}
 use Rattle.replies.proofs.Merged.{taken_more, first_refused}
 use Rattle.replies.proofs.merges.take_reports.Goals as goal
 

@@ -1,7 +1,4 @@
-use Rattle.std.proofs.Common.{◌≡◌, take}
-use Rattle.std.specs.Fn.{FnReturnsAt}
-use Rattle.replies.specs.Inputs.{known_bytes}
-use Rattle.replies.specs.Merging.{HaveTaken}
+use Rattle.replies.proofs.Common.{◌≡◌, take, FnReturnsAt, known_bytes, HaveTaken}
 use Rattle.replies.proofs.merges.take_reports.Given as goal
 
 -- the reports before this name were taken

@@ -1,5 +1,4 @@
-use Rattle.std.proofs.Common.{refl}
-use Rattle.texts.specs.Texts.{explained_text}
+use Rattle.replies.proofs.Common.{refl, explained_text}
 use Rattle.replies.proofs.Statuses.{explain_one}
 use Rattle.replies.proofs.Endings.{untouched, says_so, answered, refused}
 use Rattle.replies.proofs.questions.answer_explain.Goals as goal

@@ -1,5 +1,4 @@
-use Rattle.std.proofs.Common.{◌<◌, arith, refl}
-use Rattle.texts.specs.Texts.{measure_text}
+use Rattle.replies.proofs.Common.{◌<◌, arith, refl, measure_text}
 use Rattle.replies.proofs.Endings.{untouched, says_so, answered, refused}
 use Rattle.replies.proofs.questions.answer_measure.Goals as goal
 

@@ -1,7 +1,4 @@
-use Rattle.std.proofs.Common.{List, refl, sym, subst}
-use Rattle.dag.specs.declared.records.Access.{Access}
-use Rattle.audit.specs.Pairs.{ArePairs}
-use Rattle.texts.specs.Texts.{pairs_text}
+use Rattle.replies.proofs.Common.{List, refl, sym, subst, Access, ArePairs, pairs_text}
 use Rattle.replies.proofs.Statuses.{pairs_one}
 use Rattle.replies.proofs.Endings.{untouched, says_so, answered, refused}
 use Rattle.replies.proofs.questions.answer_pairs.Goals as goal

@@ -1,5 +1,4 @@
-use Rattle.std.proofs.Common.{◌≡◌, ◌<◌, ℕ, slice_index_or}
-use Rattle.shadow.specs.Pages.{no_names}
+use Rattle.shadow.proofs.Common.{◌≡◌, ◌<◌, ℕ, slice_index_or, no_names}
 use Rattle.shadow.proofs.pages.are_none.Given as goal
 
 abbrev pub invariant-loop-names : goal.invariant-loop-names

@@ -1,5 +1,4 @@
-use Rattle.std.proofs.Common.{◌≡◌}
-use Rattle.lane.specs.Lanes.{put_of, IsUnmarked}
+use Rattle.shard.proofs.Common.{◌≡◌, put_of, IsUnmarked}
 use Rattle.shard.proofs.backs.put_back.Given as goal
 
 abbrev pub invariant-loop : goal.invariant-loop

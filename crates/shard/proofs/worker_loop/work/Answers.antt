@@ -1,11 +1,4 @@
-use Rattle.std.proofs.Common.{rules, ◌≡◌, List, [], ◌++◌, length, take, false, refl, sym, ap, subst, ◌∙◌}
-use Rattle.dag.specs.declared.records.Placed.{Placed}
-use Rattle.lane.specs.declared.item.Item.{Item}
-use Rattle.lane.specs.Items.{has_mark, records}
-use Rattle.lane.specs.Lanes.{put_of}
-use Rattle.lane.proofs.Marks.{records_append, all_to_mark}
-use Rattle.dag.specs.declared.back.Back.{Back}
-use Rattle.shard.specs.Working.{HasWorked, IsOfShare, PutsFound}
+use Rattle.shard.proofs.Common.{rules, ◌≡◌, List, [], ◌++◌, length, take, false, refl, sym, ap, subst, ◌∙◌, Placed, Item, has_mark, records, put_of, records_append, all_to_mark, Back, HasWorked, IsOfShare, PutsFound}
 use Rattle.shard.proofs.Works.{worked_new, answers, puts_share}
 use Rattle.shard.proofs.worker_loop.work.Goals as goal
 

@@ -1,7 +1,4 @@
-use Rattle.std.proofs.Common.{◌≡◌, false}
-use Rattle.lane.specs.Items.{has_mark, records}
-use Rattle.lane.specs.Lanes.{put_of}
-use Rattle.shard.specs.Working.{HasWorked}
+use Rattle.shard.proofs.Common.{◌≡◌, false, has_mark, records, put_of, HasWorked}
 use Rattle.shard.proofs.worker_loop.work.Given as goal
 
 abbrev pub invariant-loop : goal.invariant-loop

@@ -1,5 +1,4 @@
-use Rattle.std.proofs.Common.{◌≡◌, Err, sym, rules}
-use Rattle.collect.proofs.Takings.{front_more, took_both, took_into, puts_after}
+use Rattle.texts.proofs.Common.{◌≡◌, Err, sym, rules, front_more, took_both, took_into, puts_after}
 use Rattle.texts.proofs.audits.put_measure.Goals as goal
 
 pub returns-in_err-put_at : goal.returns-in_err-put_at

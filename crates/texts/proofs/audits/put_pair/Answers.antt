@@ -1,6 +1,4 @@
-use Rattle.std.proofs.Common.{◌≡◌, ◌++◌, Err, codes, rules}
-use Rattle.collect.specs.ReportText.{access_text}
-use Rattle.collect.proofs.Takings.{front_more, took_both, took_into, puts_after}
+use Rattle.texts.proofs.Common.{◌≡◌, ◌++◌, Err, codes, rules, access_text, front_more, took_both, took_into, puts_after}
 use Rattle.texts.proofs.audits.put_pair.Goals as goal
 
 pub returns-in_err-put_all : goal.returns-in_err-put_all

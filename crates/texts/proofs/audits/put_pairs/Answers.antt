@@ -1,6 +1,4 @@
-use Rattle.std.proofs.Common.{◌≡◌, Err, rules, codes, length}
-use Rattle.texts.specs.Texts.{number_line, pair_line}
-use Rattle.collect.proofs.Takings.{front_more, took_line, front_line}
+use Rattle.texts.proofs.Common.{◌≡◌, Err, rules, codes, length, number_line, pair_line, front_more, took_line, front_line}
 use Rattle.texts.proofs.audits.put_pairs.Goals as goal
 
 pub returns-in_err-put_at : goal.returns-in_err-put_at

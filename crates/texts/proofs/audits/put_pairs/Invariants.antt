@@ -1,8 +1,4 @@
-use Rattle.std.proofs.Common.{◌++◌, codes, length, take}
-use Rattle.std.specs.List.{flat_map}
-use Rattle.trace.specs.Devices.{◌⇝◌}
-use Rattle.trace.specs.Writers.{Took}
-use Rattle.texts.specs.Texts.{number_line, pair_line}
+use Rattle.texts.proofs.Common.{◌++◌, codes, length, take, flat_map, ◌⇝◌, Took, number_line, pair_line}
 use Rattle.texts.proofs.audits.put_pairs.Given as goal
 
 abbrev pub invariant-loop-pair : goal.invariant-loop-pair

@@ -1,9 +1,4 @@
-use Rattle.std.proofs.Common.{◌≡◌, ◌++◌, Err, codes, subst, rules}
-use Rattle.dag.specs.Accesses.{RaceAt}
-use Rattle.trace.specs.Devices.{◌⇝◌}
-use Rattle.trace.specs.Writers.{TookFront, Puts}
-use Rattle.collect.specs.ReportText.{access_text, race_line}
-use Rattle.collect.proofs.Takings.{front_more, took_both, took_into, puts_after}
+use Rattle.texts.proofs.Common.{◌≡◌, ◌++◌, Err, codes, subst, rules, RaceAt, ◌⇝◌, TookFront, Puts, access_text, race_line, front_more, took_both, took_into, puts_after}
 use Rattle.texts.proofs.Lines.{front_as, puts_as, race_line_parts}
 use Rattle.texts.proofs.explanations.put_race.Goals as goal
 

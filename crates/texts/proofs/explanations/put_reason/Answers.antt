@@ -1,9 +1,4 @@
-use Rattle.std.proofs.Common.{◌≡◌, List, Err, codes, subst, rules}
-use Rattle.trace.specs.Devices.{◌⇝◌}
-use Rattle.trace.specs.Writers.{Took, TookFront}
-use Rattle.audit.specs.declared.answers.Opener.{Opener}
-use Rattle.collect.proofs.Takings.{front_more, took_both, took_into, puts_after}
-use Rattle.texts.specs.Texts.{side_line}
+use Rattle.texts.proofs.Common.{◌≡◌, List, Err, codes, subst, rules, ◌⇝◌, Took, TookFront, Opener, front_more, took_both, took_into, puts_after, side_line}
 use Rattle.texts.proofs.explanations.put_reason.Goals as goal
 
 pub returns-in_err-put_race : goal.returns-in_err-put_race

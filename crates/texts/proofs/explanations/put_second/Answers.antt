@@ -1,8 +1,4 @@
-use Rattle.std.proofs.Common.{codes, subst}
-use Rattle.dag.specs.Accesses.{RaceAt}
-use Rattle.trace.specs.Devices.{◌⇝◌}
-use Rattle.trace.specs.Writers.{Puts}
-use Rattle.texts.specs.Texts.{side_line}
+use Rattle.texts.proofs.Common.{codes, subst, RaceAt, ◌⇝◌, Puts, side_line}
 use Rattle.texts.proofs.explanations.put_second.Goals as goal
 
 pub returns : goal.returns

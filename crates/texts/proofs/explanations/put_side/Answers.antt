@@ -1,10 +1,4 @@
-use Rattle.std.proofs.Common.{◌≡◌, List, ◌++◌, Err, take, take_all, subst, rules}
-use Rattle.std.specs.List.{flat_map}
-use Rattle.trace.specs.Devices.{◌⇝◌}
-use Rattle.trace.specs.Writers.{Took}
-use Rattle.audit.specs.declared.answers.Opener.{Opener}
-use Rattle.texts.specs.Texts.{opener_text}
-use Rattle.collect.proofs.Takings.{front_more, took_line, front_line, puts_after}
+use Rattle.texts.proofs.Common.{◌≡◌, List, ◌++◌, Err, take, take_all, subst, rules, flat_map, ◌⇝◌, Took, Opener, opener_text, front_more, took_line, front_line, puts_after}
 use Rattle.texts.proofs.explanations.put_side.Goals as goal
 
 pub returns-in_err-put_all : goal.returns-in_err-put_all

@@ -1,8 +1,4 @@
-use Rattle.std.proofs.Common.{◌++◌, take}
-use Rattle.std.specs.List.{flat_map}
-use Rattle.trace.specs.Devices.{◌⇝◌}
-use Rattle.trace.specs.Writers.{Took}
-use Rattle.texts.specs.Texts.{opener_text}
+use Rattle.texts.proofs.Common.{◌++◌, take, flat_map, ◌⇝◌, Took, opener_text}
 use Rattle.texts.proofs.explanations.put_side.Given as goal
 
 abbrev pub invariant-loop-opener : goal.invariant-loop-opener

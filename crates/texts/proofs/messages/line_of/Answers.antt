@@ -1,5 +1,4 @@
-use Rattle.std.proofs.Common.{arith}
-use Rattle.trace.proofs.SpelledLines.{length-decimal-20}
+use Rattle.texts.proofs.Common.{arith, length-decimal-20}
 use Rattle.texts.proofs.messages.line_of.Goals as goal
 
 pub number-requires : goal.number-requires

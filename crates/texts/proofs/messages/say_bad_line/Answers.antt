@@ -1,6 +1,4 @@
-use Rattle.std.proofs.Common.{◌≡◌, ℕ, ◌<◌, ◌≤◌, ◌^◌, List, ◌++◌, length, codes, decimal, arith, ap, ◌∙◌, append_assoc, length-append}
-use Rattle.trace.proofs.SpelledLines.{length-decimal-20}
-use Rattle.collect.proofs.Takings.{given_as}
+use Rattle.texts.proofs.Common.{◌≡◌, ℕ, ◌<◌, ◌≤◌, ◌^◌, List, ◌++◌, length, codes, decimal, arith, ap, ◌∙◌, append_assoc, length-append, length-decimal-20, given_as}
 use Rattle.texts.proofs.messages.say_bad_line.Goals as goal
 
 -- what follows the number of the report

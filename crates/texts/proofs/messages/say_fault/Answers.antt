@@ -1,5 +1,4 @@
-use Rattle.std.proofs.Common.{◌++◌, codes, decimal, ap}
-use Rattle.collect.proofs.Takings.{given_as}
+use Rattle.texts.proofs.Common.{◌++◌, codes, decimal, ap, given_as}
 use Rattle.texts.proofs.messages.say_fault.Goals as goal
 
 pub returns-in-Text : goal.returns-in-Text

@@ -1,5 +1,4 @@
-use Rattle.std.proofs.Common.{ap, ◌∙◌}
-use Rattle.trace.specs.Digits.{paired}
+use Rattle.trace.proofs.Common.{ap, ◌∙◌, paired}
 use Rattle.trace.proofs.Sixteens.{number_is}
 use Rattle.trace.proofs.digits.number_from.Goals as goal
 

@@ -1,5 +1,4 @@
-use Rattle.std.proofs.Common.{subst, sym, arith}
-use Rattle.std.specs.Int.Digits.{AllBelowBase}
+use Rattle.trace.proofs.Common.{subst, sym, arith, AllBelowBase}
 use Rattle.trace.proofs.Sixteens.{twos_are, paired_below}
 use Rattle.trace.proofs.digits.twos.Goals as goal
 

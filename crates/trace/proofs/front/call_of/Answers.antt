@@ -1,6 +1,4 @@
-use Rattle.std.proofs.Common.{◌≡◌, sym, subst, arith}
-use Rattle.dag.specs.declared.records.Version.TheVariants.{Two}
-use Rattle.trace.specs.Text.{HasCalls}
+use Rattle.trace.proofs.Common.{◌≡◌, sym, subst, arith, Two, HasCalls}
 use Rattle.trace.proofs.Fronts.{first_four, take_five}
 use Rattle.trace.proofs.front.call_of.Goals as goal
 

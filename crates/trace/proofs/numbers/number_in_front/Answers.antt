@@ -1,5 +1,4 @@
-use Rattle.std.proofs.Common.{ap, ◌∙◌, arith}
-use Rattle.std.specs.Int.Digits.{number_from_digits}
+use Rattle.trace.proofs.Common.{ap, ◌∙◌, arith, number_from_digits}
 use Rattle.trace.proofs.Sixteens.{front_spelled, some_digit}
 use Rattle.trace.proofs.numbers.number_in_front.Goals as goal
 

@@ -1,9 +1,4 @@
-use Rattle.std.proofs.Common.{◌*◌, get_or, arith}
-use Rattle.std.specs.Int.{IsInRange}
-use Rattle.std.specs.Str.Parse.{digits_value}
-use Rattle.std.proofs.lemmas.Str.Parse.{digit_at}
-use Rattle.std.proofs.Common.{◌≡◌, ◌+◌, take, ◌-◌}
-use Rattle.std.specs.Str.Parse.{AllDigits}
+use Rattle.trace.proofs.Common.{◌*◌, get_or, arith, ◌≡◌, ◌+◌, take, ◌-◌, IsInRange, digits_value, AllDigits, digit_at}
 use Rattle.trace.proofs.Decimals.{one_more_digit, value_at_least}
 use Rattle.trace.proofs.numbers.value_of.Goals as goal
 

@@ -1,6 +1,4 @@
-use Rattle.std.proofs.Common.{ℕ, ◌+◌, ◌-◌, ◌≡◌, Bool, false, List, get_or, take, drop, refl, arith}
-use Rattle.dag.specs.declared.records.Record.{Record}
-use Rattle.dag.specs.declared.records.Record.TheVariants.{Spawn}
+use Rattle.trace.proofs.Common.{ℕ, ◌+◌, ◌-◌, ◌≡◌, Bool, false, List, get_or, take, drop, refl, arith, Record, Spawn}
 use Rattle.trace.proofs.Walks.{Item, Walks, item_at, walk_next, walk_last, walk_opener, walk_return, walk_return_out, walk_sync, walk_sync_in, walk_access}
 use Rattle.trace.proofs.parallel.is_parallel.Goals as goal
 use Rattle.trace.proofs.parallel.is_parallel.Goals.{in-Return, in-Return-2, in-Sync, in-Sync-2, in-Read, in-Read-2, in-Spawn}

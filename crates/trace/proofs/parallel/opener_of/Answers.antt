@@ -1,7 +1,4 @@
-use Rattle.std.proofs.Common.{ℕ, suc, ◌≡◌, ◌-◌, List, get_or, refl, arith}
-use Rattle.dag.specs.declared.records.Record.{Record}
-use Rattle.dag.specs.declared.records.Record.TheVariants.{Spawn}
-use Rattle.dag.proofs.Openers.{Backs, Before, before_at, back_first, back_from, back_next, back_opener, back_return, back_stays, back_found, back_last}
+use Rattle.trace.proofs.Common.{ℕ, suc, ◌≡◌, ◌-◌, List, get_or, refl, arith, Record, Spawn, Backs, Before, before_at, back_first, back_from, back_next, back_opener, back_return, back_stays, back_found, back_last}
 use Rattle.trace.proofs.parallel.opener_of.Goals as goal
 use Rattle.trace.proofs.parallel.opener_of.Goals.{in-Spawn-2, in-Return, in-Sync}
 

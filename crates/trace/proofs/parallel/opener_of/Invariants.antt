@@ -1,5 +1,4 @@
-use Rattle.std.proofs.Common.{◌-◌, ◌<◌}
-use Rattle.dag.proofs.Openers.{Backs}
+use Rattle.trace.proofs.Common.{◌-◌, ◌<◌, Backs}
 use Rattle.trace.proofs.parallel.opener_of.Given as goal
 
 -- what the walk back knows before its step

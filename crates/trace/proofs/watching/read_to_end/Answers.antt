@@ -1,8 +1,5 @@
-use Rattle.std.proofs.Common.{◌≤◌, ℕ, [], ◌∷◌, ◌++◌, refl, sym, ap, subst, ◌∙◌, arith, length-append}
+use Rattle.trace.proofs.Common.{◌≤◌, ℕ, [], ◌∷◌, ◌++◌, refl, sym, ap, subst, ◌∙◌, arith, length-append, Change, ◌⇝◌, Feeding, HasFed, IsWhole, IsWantOfMemory}
 use Rattle.dag.specs.Bounds.{most_records}
-use Rattle.trace.specs.Devices.{Change, ◌⇝◌}
-use Rattle.trace.specs.Feeding.{Feeding, HasFed, IsWhole}
-use Rattle.trace.specs.Endings.{IsWantOfMemory}
 use Rattle.trace.proofs.Feedings.{consumes_none, consumes_more, fed_none, at_limits}
 use Rattle.trace.proofs.Endings.{refused_by_fault, ends_refused, given_next, given_end}
 use Rattle.trace.proofs.watching.read_to_end.Goals as goal

@@ -1,7 +1,4 @@
-use Rattle.std.proofs.Common.{◌-◌, ◌≡◌, ℕ, List}
-use Rattle.dag.specs.declared.records.Record.{Record}
-use Rattle.trace.specs.Devices.{◌⇝◌, Gave, IsSteady}
-use Rattle.trace.specs.Feeding.{HasFed}
+use Rattle.trace.proofs.Common.{◌-◌, ◌≡◌, ℕ, List, Record, ◌⇝◌, Gave, IsSteady, HasFed}
 use Rattle.trace.proofs.watching.read_to_end.Given as goal
 
 abbrev pub invariant-records : goal.invariant-records

@@ -1,5 +1,4 @@
-use Rattle.std.proofs.Common.{◌∙◌}
-use Rattle.dag.proofs.Parts.{IsPart-range}
+use Rattle.trace.proofs.Common.{◌∙◌, IsPart-range}
 use Rattle.trace.proofs.writers.put_all.Goals as goal
 
 pub loop-rest-preserved : goal.loop-rest-preserved

@@ -1,6 +1,4 @@
-use Rattle.std.proofs.Common.{length}
-use Rattle.trace.specs.Devices.{◌⇝◌, IsSteady}
-use Rattle.dag.proofs.Parts.{IsPart}
+use Rattle.trace.proofs.Common.{length, ◌⇝◌, IsSteady, IsPart}
 use Rattle.trace.proofs.writers.put_all.Given as goal
 
 abbrev pub invariant-loop-rest : goal.invariant-loop-rest

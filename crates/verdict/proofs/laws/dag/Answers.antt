@@ -1,6 +1,5 @@
-use Rattle.dag.proofs.Paths.{parallel_through, parallel_after}
+use Rattle.verdict.proofs.Common.{parallel_through, parallel_after, early-increasing, early-exactly, verdict_is_report, report_is_verdict, racy, race_free}
 use Rattle.dag.proofs.Readers.{kept_parallel_at}
-use Rattle.shadow.proofs.Headlines.{early-increasing, early-exactly, verdict_is_report, report_is_verdict, racy, race_free}
 use Rattle.verdict.proofs.laws.dag.Goals as goal
 
 pub returns : goal.returns

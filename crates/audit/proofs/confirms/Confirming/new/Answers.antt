@@ -1,6 +1,4 @@
-use Rattle.std.proofs.Common.{subst, ◌∙◌, ap, map}
-use Rattle.collect.specs.Reports.{IsReportList}
-use Rattle.audit.specs.Entries.{entry_of}
+use Rattle.audit.proofs.Common.{subst, ◌∙◌, ap, map, IsReportList, entry_of}
 use Rattle.audit.proofs.ConfirmLemmas.{confirming_none}
 use Rattle.audit.proofs.confirms.Confirming.new.Goals as goal
 

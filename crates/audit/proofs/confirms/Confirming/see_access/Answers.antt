@@ -1,7 +1,4 @@
-use Rattle.std.proofs.Common.{◌≡◌, ◌<◌, ℕ, List, length, refl, subst, ◌∙◌, ap, slice_get, Some}
-use Rattle.std.proofs.lemmas.Option.{slice_get_read}
-use Rattle.audit.specs.declared.confirms.Entry.{Entry}
-use Rattle.audit.specs.Entries.{AreAscending}
+use Rattle.audit.proofs.Common.{◌≡◌, ◌<◌, ℕ, List, length, refl, subst, ◌∙◌, ap, slice_get, Some, slice_get_read, Entry, AreAscending}
 use Rattle.audit.proofs.ConfirmLemmas.{seen_at, unseen, entry_races-set}
 use Rattle.audit.proofs.confirms.Confirming.see_access.Goals as goal
 

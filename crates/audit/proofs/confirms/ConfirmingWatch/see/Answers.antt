@@ -1,10 +1,4 @@
-use Rattle.std.proofs.Common.{List, subst, sym, ◌∙◌, ap, refl, OnOk}
-use Rattle.dag.specs.declared.records.Kind.TheVariants.{Read, Write}
-use Rattle.audit.specs.declared.meetings.Meetings.{Meetings}
-use Rattle.audit.specs.declared.confirms.Entry.{Entry}
-use Rattle.audit.specs.declared.confirms.Confirming.{Confirming}
-use Rattle.audit.specs.Meetings.{Moves}
-use Rattle.audit.specs.Entries.{SeesEntries, entry_races}
+use Rattle.audit.proofs.Common.{List, subst, sym, ◌∙◌, ap, refl, OnOk, Read, Write, Meetings, Entry, Confirming, Moves, SeesEntries, entry_races}
 use Rattle.audit.proofs.ConfirmLemmas.{confirming_access_if, confirming_other_if, not_access}
 use Rattle.audit.proofs.confirms.ConfirmingWatch.see.Goals as goal
 use Rattle.audit.proofs.confirms.ConfirmingWatch.see.Goals.{in-Read, in-Write, in-Spawn}

@@ -1,6 +1,4 @@
-use Rattle.std.proofs.Common.{true, false, Option, IfSome, subst, sym, ◌∙◌}
-use Rattle.audit.specs.declared.explanations.Trail.{Trail}
-use Rattle.audit.specs.Explaining.{DecidesNow}
+use Rattle.audit.proofs.Common.{true, false, Option, IfSome, subst, sym, ◌∙◌, Trail, DecidesNow}
 use Rattle.audit.proofs.ExplainLemmas.{decides_now}
 use Rattle.audit.proofs.explanations.Explaining.if_parallel.Goals as goal
 use Rattle.audit.proofs.explanations.Explaining.if_parallel.Goals.{in_default-via-in-Some+else-is_parallel, in_default-via-in_default}

@@ -1,7 +1,4 @@
-use Rattle.std.proofs.Common.{◌≡◌, true, Some, refl, sym, ◌∙◌}
-use Rattle.audit.specs.declared.explanations.Trail.{Trail}
-use Rattle.audit.specs.declared.explanations.Explaining.{Explaining}
-use Rattle.audit.specs.Explaining.{DecidesNow}
+use Rattle.audit.proofs.Common.{◌≡◌, true, Some, refl, sym, ◌∙◌, Trail, Explaining, DecidesNow}
 use Rattle.audit.proofs.ExplainLemmas.{some_of, none_of, keeps_write, keeps_no_read, keeps_this_read}
 use Rattle.audit.proofs.explanations.Explaining.keep.Goals as goal
 

@@ -1,5 +1,4 @@
-use Rattle.std.proofs.Common.{ap, sym}
-use Rattle.audit.specs.declared.explanations.Explaining.{Explaining}
+use Rattle.audit.proofs.Common.{ap, sym, Explaining}
 use Rattle.audit.proofs.ExplainLemmas.{on_ok, sees_reported, sees_kept}
 use Rattle.audit.proofs.explanations.Explaining.see_access.Goals as goal
 

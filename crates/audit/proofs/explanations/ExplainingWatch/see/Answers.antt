@@ -1,7 +1,4 @@
-use Rattle.std.proofs.Common.{subst, ◌∙◌, ap, OnOk}
-use Rattle.audit.specs.declared.meetings.Meetings.{Meetings}
-use Rattle.audit.specs.declared.explanations.Explaining.{Explaining}
-use Rattle.audit.specs.Meetings.{Moves}
+use Rattle.audit.proofs.Common.{subst, ◌∙◌, ap, OnOk, Meetings, Explaining, Moves}
 use Rattle.audit.proofs.ExplainLemmas.{explaining_reported_if, explaining_sought_if}
 use Rattle.audit.proofs.explanations.ExplainingWatch.see.Goals as goal
 use Rattle.audit.proofs.explanations.ExplainingWatch.see.Goals.{in-Some, in-None+in_ok-seek-in-None}

@@ -1,9 +1,4 @@
-use Rattle.std.proofs.Common.{List, length, subst, ◌∙◌, ap, OnOk}
-use Rattle.audit.specs.declared.location_races.KeptAccess.{KeptAccess}
-use Rattle.audit.specs.declared.location_races.Pairing.{Pairing}
-use Rattle.audit.specs.declared.meetings.Meetings.{Meetings}
-use Rattle.audit.specs.Meetings.{Moves}
-use Rattle.audit.specs.Pairing.{AddsPairs}
+use Rattle.audit.proofs.Common.{List, length, subst, ◌∙◌, ap, OnOk, KeptAccess, Pairing, Meetings, Moves, AddsPairs}
 use Rattle.audit.proofs.PairLemmas.{paired_access_if, paired_other_if}
 use Rattle.audit.proofs.location_races.PairingWatch.see.Goals as goal
 use Rattle.audit.proofs.location_races.PairingWatch.see.Goals.{in-Some+in_ok-add_pairs+in_ok-push, in_default}

@@ -1,5 +1,4 @@
-use Rattle.std.proofs.Common.{◌+◌, sym, ◌∙◌, ap, max}
-use Rattle.audit.specs.declared.measures.Measuring.{Measuring}
+use Rattle.audit.proofs.Common.{◌+◌, sym, ◌∙◌, ap, max, Measuring}
 use Rattle.audit.proofs.Measured.{measured_if, spawns-more, spawns-same}
 use Rattle.audit.proofs.measures.MeasuringWatch.see.Goals as goal
 use Rattle.audit.proofs.measures.MeasuringWatch.see.Goals.{in-Spawn, in_default}

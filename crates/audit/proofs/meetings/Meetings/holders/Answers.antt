@@ -1,6 +1,4 @@
-use Rattle.std.proofs.Common.{nat_lt, rules}
-use Rattle.std.proofs.lemmas.List.Sorted.{IsPartitionPoint-from_clause}
-use Rattle.audit.specs.declared.meetings.Active.{Active}
+use Rattle.audit.proofs.Common.{nat_lt, rules, IsPartitionPoint-from_clause, Active}
 use Rattle.audit.proofs.meetings.Meetings.holders.Goals as goal
 
 pub returns-clause-opened : goal.returns-clause-opened

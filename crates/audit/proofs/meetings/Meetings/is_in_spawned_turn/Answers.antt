@@ -1,7 +1,4 @@
-use Rattle.std.proofs.Common.{◌≤◌, List, length, nat_lt, refl, arith, rules}
-use Rattle.std.proofs.lemmas.List.Sorted.{IsPartitionPoint-from_clause}
-use Rattle.std.proofs.lemmas.Option.{slice_get_read}
-use Rattle.audit.specs.declared.meetings.Turn.{Turn}
+use Rattle.audit.proofs.Common.{◌≤◌, List, length, nat_lt, refl, arith, rules, IsPartitionPoint-from_clause, slice_get_read, Turn}
 use Rattle.audit.proofs.MeetingLemmas.{IsTurnCount, decided_turn, decided_no_turn}
 use Rattle.audit.proofs.meetings.Meetings.is_in_spawned_turn.Goals as goal
 

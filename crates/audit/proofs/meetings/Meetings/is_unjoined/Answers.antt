@@ -1,8 +1,5 @@
-use Rattle.std.proofs.Common.{◌≡◌, arith, refl, sym, ◌∙◌, length}
-use Rattle.std.proofs.lemmas.Bool.{lt-ltb, ltb-true}
-use Rattle.std.proofs.lemmas.Option.{slice_get_read}
+use Rattle.audit.proofs.Common.{◌≡◌, arith, refl, sym, ◌∙◌, length, lt-ltb, ltb-true, slice_get_read, element_at}
 use Rattle.audit.proofs.MeetingLemmas.{decided_executing, decided_suspended, decided_none}
-use Rattle.dag.proofs.Lists.{element_at}
 use Rattle.audit.proofs.meetings.Meetings.is_unjoined.Goals as goal
 
 pub returns-then-len-depth : goal.returns-then-len-depth

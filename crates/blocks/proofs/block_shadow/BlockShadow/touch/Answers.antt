@@ -1,8 +1,4 @@
-use Rattle.std.proofs.Common.{◌≡◌, ◌∙◌, ℕ, ◌+◌, ◌*◌, ◌/◌, ◌%◌, ◌++◌, List, ap, arith}
-use Rattle.std.specs.Int.RustNames.{count_ones}
-use Rattle.dag.specs.Accesses.{RaceAt}
-use Rattle.blocks.specs.Pages.{cell_of_unit, touched_at, races_up_to}
-use Rattle.blocks.specs.Blocks.{Blocks, block_of, unit_of, first_of}
+use Rattle.blocks.proofs.Common.{◌≡◌, ◌∙◌, ℕ, ◌+◌, ◌*◌, ◌/◌, ◌%◌, ◌++◌, List, ap, arith, count_ones, RaceAt, cell_of_unit, touched_at, races_up_to, Blocks, block_of, unit_of, first_of}
 use Rattle.blocks.proofs.Kept.{all_later, all_after, kept_after, races_of_same, races_at_locations}
 use Rattle.blocks.proofs.block_shadow.BlockShadow.touch.Goals as goal
 

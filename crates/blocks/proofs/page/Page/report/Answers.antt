@@ -1,16 +1,7 @@
-use Rattle.std.proofs.Common.{◌≡◌, ◌∙◌, ℕ, ◌+◌, false, List, Option, [], ◌∷◌, ◌++◌, ap, sym, refl, append-nil, append_assoc, add-one, arith}
-use Rattle.dag.specs.Accesses.{RaceAt}
-use Rattle.dag.specs.declared.records.Access.{Access}
-use Rattle.shadow.specs.Cells.{rival}
-use Rattle.blocks.specs.Masks.{has}
-use Rattle.blocks.specs.Groups.{names_of}
-use Rattle.blocks.specs.Steps.{named_cell}
-use Rattle.blocks.specs.Pages.{Block, unit_cell, location_of, races_up_to}
-use Rattle.blocks.specs.declared.step.Names.{Names}
-use Rattle.blocks.specs.declared.groups.Group.{Group}
+use Rattle.blocks.proofs.Common.{◌≡◌, ◌∙◌, ℕ, ◌+◌, false, List, Option, [], ◌∷◌, ◌++◌, ap, sym, refl, append-nil, append_assoc, add-one, arith, RaceAt, Access, rival, has, names_of, named_cell, Block, unit_cell, location_of, races_up_to, Names, Group}
 use Rattle.blocks.proofs.Bits.{has_if, has_unless}
 use Rattle.blocks.proofs.Counts.{before_all, one_of_all}
-use Rattle.blocks.proofs.Named.{cell_later}
+use Rattle.blocks.proofs.Named.{named_later}
 use Rattle.blocks.proofs.Raced.{is_accessed, races_begin, races_same, races_more}
 use Rattle.blocks.proofs.page.Page.report.Goals as goal
 use Rattle.blocks.proofs.page.Page.report.Goals.{then-racy-unit-eq1+in-Some+in_ok-push, then-racy-unit-eq1+in_default, else-racy-unit-eq1}
@@ -25,7 +16,7 @@ pub rival-rival-requires-clause-before : goal.rival-rival-requires-clause-before
 rival-rival-requires-clause-before c =
     let groups : c.self.inside.groups.items ≡ c.args.self.now.groups = ap (λ (p : Block). p.groups) c.self.view_is in
     rw (c.names_of.ensures, c.deref.ensures.value, groups)
-    (cell_later c.args.place (c.args.place + c.count_before.result) c.args.bags.now.count (names_of c.args.self.now.groups c.loop-unit.unit) c.loop-unit.unit (has c.args.self.now.reported c.loop-unit.unit) false (omega arith) (c.requires.before c.loop-unit.unit c.loop-unit-test.true))
+    (named_later c.args.place (c.args.place + c.count_before.result) c.args.bags.now.count (names_of c.args.self.now.groups c.loop-unit.unit) c.loop-unit.unit (has c.args.self.now.reported c.loop-unit.unit) false (omega arith) (c.requires.before c.loop-unit.unit c.loop-unit-test.true))
 
 pub rival-rival-requires-clause-to_limit : goal.rival-rival-requires-clause-to_limit
 rival-rival-requires-clause-to_limit c =

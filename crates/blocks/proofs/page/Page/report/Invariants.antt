@@ -1,5 +1,4 @@
-use Rattle.std.proofs.Common.{◌≡◌, ◌++◌}
-use Rattle.blocks.specs.Pages.{unit_cell, races_up_to}
+use Rattle.blocks.proofs.Common.{◌≡◌, ◌++◌, unit_cell, races_up_to}
 use Rattle.blocks.proofs.page.Page.report.Given as goal
 
 abbrev pub invariant-loop-unit : goal.invariant-loop-unit

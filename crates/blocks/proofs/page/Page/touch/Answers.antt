@@ -1,12 +1,6 @@
-use Rattle.std.proofs.Common.{◌≡◌, ◌∙◌, ◌+◌, ◌<◌, ◌++◌, ap, sym, subst, append-nil, arith}
-use Rattle.std.specs.Int.RustNames.{count_ones}
-use Rattle.shadow.specs.Before.{IsCellBefore}
-use Rattle.blocks.specs.Masks.{has}
-use Rattle.blocks.specs.Groups.{names_at, names_of}
-use Rattle.blocks.specs.Steps.{named_cell}
-use Rattle.blocks.specs.Pages.{Block, unit_cell, AreNew}
+use Rattle.blocks.proofs.Common.{◌≡◌, ◌∙◌, ◌+◌, ◌<◌, ◌++◌, ap, sym, subst, append-nil, arith, count_ones, IsCellBefore, has, names_at, names_of, named_cell, Block, unit_cell, AreNew, cell_later}
 use Rattle.blocks.proofs.Bits.{has_or}
-use Rattle.blocks.proofs.Named.{known_names, cell_after, unit_later, touched_earlier, partly_earlier}
+use Rattle.blocks.proofs.Named.{known_names, cell_after, touched_earlier, partly_earlier}
 use Rattle.blocks.proofs.Raced.{new_units, known_racy, no_races}
 use Rattle.blocks.proofs.page.Page.touch.Goals as goal
 use Rattle.blocks.proofs.page.Page.touch.Goals.{then-racy-ne0+in_ok-report, else-racy-ne0}
@@ -53,7 +47,7 @@ returns-clause-earlier c i h =
     (touched_earlier c.args.bags.now.active c.args.kind c.args.place c.args.units i c.args.bags.now.count (unit_cell c.args.self.now i) (subst (λ n. n < c.args.bags.now.count) c.current-executing.ensures.executes c.current-executing.ensures.known) c.requires.from_one c.ranges.units.fits h (c.requires.before i h))
 
 pub returns-in_err-report-clause-earlier : goal.returns-in_err-report-clause-earlier
-returns-in_err-report-clause-earlier c i h = unit_later c.args.place (c.args.place + count_ones c.args.units) c.args.bags.now.count c.args.bags.now.count (unit_cell c.args.self.now i) (omega arith) (omega arith) (c.requires.before i h)
+returns-in_err-report-clause-earlier c i h = cell_later c.args.place (c.args.place + count_ones c.args.units) c.args.bags.now.count c.args.bags.now.count (unit_cell c.args.self.now i) (omega arith) (omega arith) (c.requires.before i h)
 
 pub returns-in_err-touch-clause-earlier : goal.returns-in_err-touch-clause-earlier
 returns-in_err-touch-clause-earlier c i h =

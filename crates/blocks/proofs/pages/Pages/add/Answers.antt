@@ -1,9 +1,5 @@
-use Rattle.std.proofs.Common.{Some, None, List, ℕ, ◌≡◌, ◌∙◌, ◌++◌, ◌∷◌, [], ap, subst, sym, slice_get, length, nat_eq, unwrap_or, cond, refl, Option}
-use Rattle.std.proofs.lemmas.Bool.{eq-eqb}
-use Rattle.std.specs.Map.{lookup}
-use Rattle.indexmap.proofs.CallerLemmas.{insert_entry-new}
+use Rattle.blocks.proofs.Common.{Some, None, List, ℕ, ◌≡◌, ◌∙◌, ◌++◌, ◌∷◌, [], ap, subst, sym, slice_get, length, nat_eq, unwrap_or, cond, refl, Option, eq-eqb, lookup, insert_entry-new, block_numbered, IsBlockAt, Block, no_block}
 use Rattle.dag.proofs.Lists.{slice_get-last}
-use Rattle.blocks.specs.Pages.{block_numbered, IsBlockAt, Block, no_block}
 use Rattle.blocks.proofs.pages.Pages.add.Goals as goal
 
 pub returns-clause-there : goal.returns-clause-there

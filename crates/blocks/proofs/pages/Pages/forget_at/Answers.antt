@@ -1,8 +1,4 @@
-use Rattle.std.proofs.Common.{Some, ap, sym, ◌∙◌, refl}
-use Rattle.std.proofs.lemmas.Bool.{eq-eqb}
-use Rattle.std.proofs.lemmas.Cmp.{nat_eq_equiv}
-use Rattle.indexmap.proofs.CallerLemmas.{updates-with_value_at}
-use Rattle.blocks.specs.Pages.{IsBlockAt, cell_of_unit, forgotten_at}
+use Rattle.blocks.proofs.Common.{Some, ap, sym, ◌∙◌, refl, eq-eqb, nat_eq_equiv, updates-with_value_at, IsBlockAt, cell_of_unit, forgotten_at}
 use Rattle.blocks.proofs.Entries.{value_there, put_after, page_after}
 use Rattle.blocks.proofs.pages.Pages.forget_at.Goals as goal
 

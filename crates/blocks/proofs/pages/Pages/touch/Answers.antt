@@ -1,9 +1,4 @@
-use Rattle.std.proofs.Common.{Some, ap, sym, ◌∙◌, refl}
-use Rattle.std.proofs.lemmas.Cmp.{nat_eq_equiv}
-use Rattle.std.proofs.lemmas.Bool.{eq-eqb}
-use Rattle.std.specs.Option.{option_copied_mut}
-use Rattle.indexmap.proofs.CallerLemmas.{updates-with_value_at}
-use Rattle.blocks.specs.Pages.{cell_of_unit, touched_at, IsBlockAt}
+use Rattle.blocks.proofs.Common.{Some, ap, sym, ◌∙◌, refl, nat_eq_equiv, eq-eqb, option_copied_mut, updates-with_value_at, cell_of_unit, touched_at, IsBlockAt}
 use Rattle.blocks.proofs.Entries.{some_value, value_there, page_after, put_after, others_after}
 use Rattle.blocks.proofs.pages.Pages.touch.Goals as goal
 

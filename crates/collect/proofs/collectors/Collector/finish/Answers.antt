@@ -1,5 +1,4 @@
-use Rattle.std.proofs.Common.{rules}
-use Rattle.collect.specs.Collected.{IsCollected}
+use Rattle.collect.proofs.Common.{rules, IsCollected}
 use Rattle.collect.proofs.FirstLeast.{first_least}
 use Rattle.collect.proofs.collectors.Collector.finish.Goals as goal
 

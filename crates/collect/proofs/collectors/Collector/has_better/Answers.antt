@@ -1,5 +1,4 @@
-use Rattle.std.proofs.Common.{false, Some, ap, ◌∙◌, leb}
-use Rattle.std.specs.Option.{option_map_or}
+use Rattle.collect.proofs.Common.{false, Some, ap, ◌∙◌, leb, option_map_or}
 use Rattle.collect.proofs.Kept.{race_on-values}
 use Rattle.collect.proofs.collectors.Collector.has_better.Goals as goal
 

@@ -1,7 +1,4 @@
-use Rattle.std.proofs.Common.{arith, ap, sym, ◌∙◌, subst}
-use Rattle.std.specs.BTreeMap.{insert_entry}
-use Rattle.std.specs.Ordering.{nat_cmp}
-use Rattle.collect.specs.Reports.{IsEntry}
+use Rattle.collect.proofs.Common.{arith, ap, sym, ◌∙◌, subst, insert_entry, nat_cmp, IsEntry}
 use Rattle.collect.proofs.Kept.{put, on_err, race_on-values, IsKeyed-put, values-put}
 use Rattle.collect.proofs.Best.{Holds-kept, Holds-put}
 use Rattle.collect.proofs.collectors.Collector.keep.Goals as goal

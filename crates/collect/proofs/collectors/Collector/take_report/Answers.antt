@@ -1,8 +1,4 @@
-use Rattle.std.proofs.Common.{◌≡◌, ℕ, suc, ◌<◌, List, ◌∷◌, ◌++◌, map, length, get_or, take, drop, ap, sym, ◌∙◌, subst, take-append-drop, drop-cons}
-use Rattle.dag.specs.declared.back.Back.{Back}
-use Rattle.dag.specs.declared.back.Back.TheVariants.{Race}
-use Rattle.dag.specs.Accesses.{RaceAt}
-use Rattle.collect.specs.Collected.{IsFirstOnLocation, IsTakenInPart, Collection, KeepsBest}
+use Rattle.collect.proofs.Common.{◌≡◌, ℕ, suc, ◌<◌, List, ◌∷◌, ◌++◌, map, length, get_or, take, drop, ap, sym, ◌∙◌, subst, take-append-drop, drop-cons, Back, Race, RaceAt, IsFirstOnLocation, IsTakenInPart, Collection, KeepsBest}
 use Rattle.collect.proofs.Kept.{on_err}
 use Rattle.collect.proofs.collectors.Collector.take_report.Goals as goal
 

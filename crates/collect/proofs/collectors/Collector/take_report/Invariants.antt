@@ -1,7 +1,4 @@
-use Rattle.std.proofs.Common.{List, ◌++◌, map, take}
-use Rattle.dag.specs.declared.back.Back.{Back}
-use Rattle.dag.specs.declared.back.Back.TheVariants.{Race}
-use Rattle.collect.specs.Collected.{KeepsBest}
+use Rattle.collect.proofs.Common.{List, ◌++◌, map, take, Back, Race, KeepsBest}
 use Rattle.collect.proofs.collectors.Collector.take_report.Given as goal
 
 abbrev pub invariant-loop-race : goal.invariant-loop-race

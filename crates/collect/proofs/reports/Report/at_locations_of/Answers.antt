@@ -1,8 +1,4 @@
-use Rattle.std.proofs.Common.{◌≡◌, ℕ, suc, ◌+◌, ◌<◌, ◌≤◌, ◌^◌, List, length, set, get_or, sym, ap, ap₂, subst, ◌∙◌, arith}
-use Rattle.dag.specs.Accesses.{RaceAt}
-use Rattle.dag.specs.Parts.{location_at}
-use Rattle.collect.specs.Reports.{IsReportList}
-use Rattle.collect.specs.Located.{located_at}
+use Rattle.collect.proofs.Common.{◌≡◌, ℕ, suc, ◌+◌, ◌<◌, ◌≤◌, ◌^◌, List, length, set, get_or, sym, ap, ap₂, subst, ◌∙◌, arith, RaceAt, location_at, IsReportList, located_at}
 use Rattle.collect.proofs.Located.{partly, partly-all, partly-next, partly-set, has_location, list-located}
 use Rattle.collect.proofs.reports.Report.at_locations_of.Goals as goal
 

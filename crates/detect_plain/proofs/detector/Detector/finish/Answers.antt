@@ -1,7 +1,5 @@
-use Rattle.std.proofs.Common.{sym, subst}
+use Rattle.detect_plain.proofs.Common.{sym, subst, HasFollowed, HasSeenTrace, report_of}
 use Rattle.std.proofs.lemmas.Result.{IfOk-weaker}
-use Rattle.detect_plain.specs.Detected.{HasFollowed, HasSeenTrace}
-use Rattle.verdict.proofs.Reports.{report_of}
 use Rattle.detect_plain.proofs.Detected.{reported}
 use Rattle.detect_plain.proofs.detector.Detector.finish.Goals as goal
 

@@ -1,5 +1,4 @@
-use Rattle.std.proofs.Common.{refl, sym, subst}
-use Rattle.detect_plain.specs.Detected.{DetectorState, HasFollowed}
+use Rattle.detect_plain.proofs.Common.{refl, sym, subst, DetectorState, HasFollowed}
 use Rattle.detect_plain.proofs.Detected.{seen_before, followed_none, followed_race}
 use Rattle.detect_plain.proofs.detector.Detector.follow.Goals as goal
 

@@ -1,8 +1,4 @@
-use Rattle.std.proofs.Common.{◌≡◌, [], ◌∷◌, subst}
-use Rattle.std.specs.Option.{option_to_list}
-use Rattle.dag.specs.declared.part.Part.{Part}
-use Rattle.dag.specs.Parts.{records_of}
-use Rattle.shadow.proofs.StateLemmas.{map_OnOk}
+use Rattle.detect_plain.proofs.Common.{◌≡◌, [], ◌∷◌, subst, Part, records_of, map_OnOk, option_to_list}
 use Rattle.detect_plain.proofs.PartRecords.{own_place}
 use Rattle.detect_plain.proofs.Detected.{part_passed, part_followed}
 use Rattle.detect_plain.proofs.detector.PartDetectorWatch.see.Goals as goal

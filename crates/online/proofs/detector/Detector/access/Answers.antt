@@ -1,12 +1,5 @@
-use Rattle.std.proofs.Common.{◌++◌, List, inr, map, refl, sym, subst, ap}
-use Rattle.std.specs.Option.{option_to_list}
-use Rattle.dag.specs.declared.back.Back.TheVariants.{Race}
-use Rattle.dag.specs.declared.records.Placed.{Placed}
-use Rattle.shadow.proofs.StateLemmas.{map_OnOk}
-use Rattle.collect.specs.Collected.{KeepsBest}
+use Rattle.online.proofs.Common.{◌++◌, List, inr, map, refl, sym, subst, ap, option_to_list, Race, Placed, map_OnOk, KeepsBest, placed_in_life, Online, HasTakenPlaced}
 use Rattle.blocks.proofs.Entries.{on_err}
-use Rattle.online.specs.Lives.{placed_in_life}
-use Rattle.online.specs.Online.{Online, HasTakenPlaced}
 use Rattle.online.proofs.Found.{met_one, found_next, takes_none}
 use Rattle.online.proofs.detector.Detector.access.Goals as goal
 

@@ -1,9 +1,5 @@
-use Rattle.std.proofs.Common.{sym, subst}
+use Rattle.online.proofs.Common.{sym, subst, placed, first_lives, HasTakenPlaced, IsAfter, report_of}
 use Rattle.std.proofs.lemmas.Result.{IfOk-weaker}
-use Rattle.dag.specs.Traces.{placed}
-use Rattle.online.specs.Lives.{first_lives}
-use Rattle.online.specs.Online.{HasTakenPlaced, IsAfter}
-use Rattle.verdict.proofs.Reports.{report_of}
 use Rattle.online.proofs.Reported.{reported_lives, reported_first, reported_once, lives_racy}
 use Rattle.online.proofs.detector.Detector.finish.Goals as goal
 

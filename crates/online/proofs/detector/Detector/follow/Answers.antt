@@ -1,9 +1,4 @@
-use Rattle.std.proofs.Common.{◌≡◌, ◌+◌, ◌++◌, [], ◌∷◌, refl, ap, sym, subst}
-use Rattle.dag.specs.declared.records.Record.TheVariants.{Spawn, Call, Return, Sync}
-use Rattle.dag.specs.declared.records.Record.{Record}
-use Rattle.shadow.proofs.StateLemmas.{map_OnOk}
-use Rattle.online.specs.Lives.{in_life}
-use Rattle.online.specs.Online.{Online, HasTakenPlaced, WantsMemory}
+use Rattle.online.proofs.Common.{◌≡◌, ◌+◌, ◌++◌, [], ◌∷◌, refl, ap, sym, subst, Spawn, Call, Return, Sync, Record, map_OnOk, in_life, Online, HasTakenPlaced, WantsMemory}
 use Rattle.online.proofs.Found.{map_OnErr, at_place, met_structure, spawn_moves, call_moves, sync_moves, return_moves}
 use Rattle.online.proofs.detector.Detector.follow.Goals as goal
 

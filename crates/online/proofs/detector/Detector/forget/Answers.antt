@@ -1,5 +1,4 @@
-use Rattle.std.proofs.Common.{refl, sym, subst, arith}
-use Rattle.online.specs.Online.{Online, IsAfter}
+use Rattle.online.proofs.Common.{refl, sym, subst, arith, Online, IsAfter}
 use Rattle.online.proofs.Reborn.{after_reborn, even_forgotten, odd_forgotten}
 use Rattle.online.proofs.detector.Detector.forget.Goals as goal
 

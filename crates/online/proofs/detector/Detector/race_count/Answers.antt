@@ -1,5 +1,4 @@
-use Rattle.std.proofs.Common.{sym, subst}
-use Rattle.online.specs.Online.{IsAfter}
+use Rattle.online.proofs.Common.{sym, subst, IsAfter}
 use Rattle.online.proofs.Reported.{race_count}
 use Rattle.online.proofs.detector.Detector.race_count.Goals as goal
 

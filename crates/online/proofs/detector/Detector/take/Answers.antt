@@ -1,9 +1,4 @@
-use Rattle.std.proofs.Common.{inl, inr, ⊎_elim, ◌+◌, [], ◌∷◌, ◌++◌, ap, sym, subst, IsErr, OnErr}
-use Rattle.dag.specs.declared.records.Placed.{Placed}
-use Rattle.dag.specs.Traces.{placed}
-use Rattle.shadow.proofs.StateLemmas.{map_OnOk}
-use Rattle.online.specs.Lives.{in_life}
-use Rattle.online.specs.Online.{IsAfter, WantsMemory}
+use Rattle.online.proofs.Common.{inl, inr, ⊎_elim, ◌+◌, [], ◌∷◌, ◌++◌, ap, sym, subst, IsErr, OnErr, Placed, placed, map_OnOk, in_life, IsAfter, WantsMemory}
 use Rattle.online.proofs.Found.{where_ok, where_err}
 use Rattle.online.proofs.Running.{after_next, returns_in_life}
 use Rattle.online.proofs.detector.Detector.take.Goals as goal

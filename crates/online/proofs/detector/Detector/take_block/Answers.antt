@@ -1,11 +1,4 @@
-use Rattle.std.proofs.Common.{◌+◌, ◌≤◌, sym, subst, ◌++◌, map, IsErr, OnErr}
-use Rattle.std.specs.Int.RustNames.{count_ones}
-use Rattle.dag.specs.Bounds.{most_records}
-use Rattle.dag.specs.Traces.{placed}
-use Rattle.shadow.proofs.StateLemmas.{map_OnOk}
-use Rattle.online.specs.Accesses.{block_records}
-use Rattle.online.specs.Lives.{in_life}
-use Rattle.online.specs.Online.{IsAfter}
+use Rattle.online.proofs.Common.{◌+◌, ◌≤◌, sym, subst, ◌++◌, map, IsErr, OnErr, count_ones, most_records, placed, map_OnOk, block_records, in_life, IsAfter}
 use Rattle.online.proofs.Found.{where_ok, where_err}
 use Rattle.online.proofs.Running.{after_block}
 use Rattle.online.proofs.detector.Detector.take_block.Goals as goal

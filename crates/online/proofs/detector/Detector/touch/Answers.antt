@@ -1,14 +1,5 @@
-use Rattle.std.proofs.Common.{◌≡◌, ◌++◌, List, [], map, refl, sym, subst, ap, ◌∙◌, append-nil}
+use Rattle.online.proofs.Common.{◌≡◌, ◌++◌, List, [], map, refl, sym, subst, ap, ◌∙◌, append-nil, eqb-true, nil_from_length, Placed, RaceAt, map_OnOk, block_of, races_in_block, kept_in_blocks, accesses, placed_in_life, Online, HasTakenPlaced}
 use Rattle.std.specs.Vec.{vec_len}
-use Rattle.std.proofs.lemmas.Bool.{eqb-true}
-use Rattle.std.proofs.lemmas.List.{nil_from_length}
-use Rattle.dag.specs.declared.records.Placed.{Placed}
-use Rattle.dag.specs.Accesses.{RaceAt}
-use Rattle.shadow.proofs.StateLemmas.{map_OnOk}
-use Rattle.blocks.specs.Blocks.{block_of, races_in_block, kept_in_blocks}
-use Rattle.online.specs.Accesses.{accesses}
-use Rattle.online.specs.Lives.{placed_in_life}
-use Rattle.online.specs.Online.{Online, HasTakenPlaced}
 use Rattle.online.proofs.Alone.{none_accessed}
 use Rattle.online.proofs.Found.{met_units, takes_none}
 use Rattle.online.proofs.detector.Detector.touch.Goals as goal

@@ -1,10 +1,5 @@
-use Rattle.std.proofs.Common.{◌≡◌, ◌+◌, ◌++◌, map, ap, sym, subst, arith}
-use Rattle.std.specs.Int.RustNames.{count_ones}
+use Rattle.online.proofs.Common.{◌≡◌, ◌+◌, ◌++◌, map, ap, sym, subst, arith, count_ones, map_OnOk, accesses, placed_in_life, Online, HasTakenPlaced}
 use Rattle.dag.specs.declared.records.Kind.TheVariants.{Read, Write}
-use Rattle.shadow.proofs.StateLemmas.{map_OnOk}
-use Rattle.online.specs.Accesses.{accesses}
-use Rattle.online.specs.Lives.{placed_in_life}
-use Rattle.online.specs.Online.{Online, HasTakenPlaced}
 use Rattle.online.proofs.Found.{at_place}
 use Rattle.online.proofs.detector.Detector.touch_both.Goals as goal
 

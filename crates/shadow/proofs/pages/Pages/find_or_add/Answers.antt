@@ -1,9 +1,4 @@
-use Rattle.std.proofs.Common.{Some, None, List, ℕ, ◌≡◌, ◌∙◌, ◌++◌, ◌∷◌, [], ap, subst, sym, slice_get, length, nat_eq, unwrap_or, cond, refl, Option}
-use Rattle.std.proofs.lemmas.Bool.{eq-eqb}
-use Rattle.std.specs.Map.{lookup}
-use Rattle.indexmap.proofs.CallerLemmas.{insert_entry-new}
-use Rattle.dag.proofs.Lists.{slice_get-last}
-use Rattle.shadow.specs.Pages.{page_numbered, IsPageAt, Page, no_page}
+use Rattle.shadow.proofs.Common.{Some, None, List, ℕ, ◌≡◌, ◌∙◌, ◌++◌, ◌∷◌, [], ap, subst, sym, slice_get, length, nat_eq, unwrap_or, cond, refl, Option, eq-eqb, lookup, insert_entry-new, slice_get-last, page_numbered, IsPageAt, Page, no_page}
 use Rattle.shadow.proofs.pages.Pages.find_or_add.Goals as goal
 
 pub returns-clause-there : goal.returns-clause-there

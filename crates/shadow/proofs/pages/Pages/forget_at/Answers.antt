@@ -1,6 +1,4 @@
-use Rattle.std.proofs.Common.{ap, ◌∙◌, refl}
-use Rattle.shadow.specs.Cells.{untouched}
-use Rattle.shadow.specs.Pages.{cell_at}
+use Rattle.shadow.proofs.Common.{ap, ◌∙◌, refl, untouched, cell_at}
 use Rattle.shadow.proofs.PageLemmas.{but_one_seat, put_changed, numbered_here}
 use Rattle.shadow.proofs.pages.Pages.forget_at.Goals as goal
 

@@ -1,7 +1,5 @@
-use Rattle.std.proofs.Common.{Some, ap, sym, ◌∙◌, refl}
+use Rattle.shadow.proofs.Common.{Some, ap, sym, ◌∙◌, refl, updates-with_value_at, IsPageAt}
 use Rattle.std.proofs.lemmas.Cmp.{nat_eq_equiv}
-use Rattle.indexmap.proofs.CallerLemmas.{updates-with_value_at}
-use Rattle.shadow.specs.Pages.{IsPageAt}
 use Rattle.shadow.proofs.PageLemmas.{value_there, set_page}
 use Rattle.shadow.proofs.pages.Pages.page_mut.Goals as goal
 

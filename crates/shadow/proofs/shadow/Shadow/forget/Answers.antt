@@ -1,7 +1,4 @@
-use Rattle.std.proofs.Common.{◌+◌, sym, subst}
-use Rattle.shadow.specs.Before.{IsCellBefore}
-use Rattle.shadow.specs.Cells.{untouched}
-use Rattle.shadow.specs.Pages.{page_of, seat_of, cell_of, HasPut}
+use Rattle.shadow.proofs.Common.{◌+◌, sym, subst, IsCellBefore, untouched, page_of, seat_of, cell_of, HasPut}
 use Rattle.shadow.proofs.CellLemmas.{before_forgotten}
 use Rattle.shadow.proofs.PageLemmas.{put_is_of}
 use Rattle.shadow.proofs.shadow.Shadow.forget.Goals as goal

@@ -1,9 +1,4 @@
-use Rattle.std.proofs.Common.{◌≡◌, ◌≢◌, ◌∙◌, ℕ, ap, arith, rules, subst, sym, slice_set}
-use Rattle.std.proofs.lemmas.List.{get_or_default}
-use Rattle.shadow.specs.Pages.{Page, page_of, seat_of, page_numbered, cell_at, no_names}
-use Rattle.shadow.specs.Touches.{MayTouch, HasTouched}
-use Rattle.shadow.specs.Before.{IsCellBefore}
-use Rattle.shadow.specs.Shadow.{Shadow}
+use Rattle.shadow.proofs.Common.{◌≡◌, ◌≢◌, ◌∙◌, ℕ, ap, arith, rules, subst, sym, slice_set, get_or_default, Page, page_of, seat_of, page_numbered, cell_at, no_names, MayTouch, HasTouched, IsCellBefore, Shadow}
 use Rattle.shadow.proofs.PageLemmas.{kept_by_touch}
 use Rattle.shadow.proofs.CellLemmas.{found_before, cells_before, pages_stay}
 use Rattle.shadow.proofs.shadow.Shadow.touch.Goals as goal

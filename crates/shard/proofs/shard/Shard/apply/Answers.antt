@@ -1,9 +1,4 @@
-use Rattle.std.proofs.Common.{[], ◌∷◌, ◌++◌, ◌≡◌, Option, Some, sym, subst}
-use Rattle.std.specs.Option.{option_to_list}
-use Rattle.dag.specs.Accesses.{RaceAt}
-use Rattle.shadow.specs.Found.{found}
-use Rattle.shadow.specs.Shadow.{HaveSeen}
-use Rattle.shard.specs.Shards.{ShardState}
+use Rattle.shard.proofs.Common.{[], ◌∷◌, ◌++◌, ◌≡◌, Option, Some, sym, subst, option_to_list, RaceAt, found, HaveSeen, ShardState}
 use Rattle.shard.proofs.Steps.{second_at}
 use Rattle.shard.proofs.shard.Shard.apply.Goals as goal
 

@@ -1,13 +1,4 @@
-use Rattle.std.proofs.Common.{◌≡◌, ◌+◌, List, [], ◌∷◌, ◌++◌, Option, map, take, sym, ap, subst, ◌∙◌, append_assoc, append-nil}
-use Rattle.std.specs.Option.{option_to_list}
-use Rattle.dag.specs.declared.records.Placed.{Placed}
-use Rattle.dag.specs.declared.back.Back.{Back}
-use Rattle.lane.specs.declared.item.Item.{Item}
-use Rattle.lane.specs.declared.item.Item.TheVariants.{One}
-use Rattle.lane.specs.Items.{records}
-use Rattle.lane.specs.Lanes.{put_of}
-use Rattle.lane.proofs.Marks.{records_next}
-use Rattle.shard.specs.Working.{HasWorked}
+use Rattle.shard.proofs.Common.{◌≡◌, ◌+◌, List, [], ◌∷◌, ◌++◌, Option, map, take, sym, ap, subst, ◌∙◌, append_assoc, append-nil, option_to_list, Placed, Back, Item, One, records, put_of, records_next, HasWorked}
 use Rattle.shard.proofs.worker.Worker.apply_block.Goals as goal
 use Rattle.shard.proofs.worker.Worker.apply_block.Goals.{in-Some, in_default}
 

@@ -1,8 +1,4 @@
-use Rattle.std.proofs.Common.{◌≡◌, List, ◌++◌, take}
-use Rattle.dag.specs.declared.records.Placed.{Placed}
-use Rattle.lane.specs.Items.{records}
-use Rattle.lane.specs.Lanes.{put_of}
-use Rattle.shard.specs.Working.{HasWorked}
+use Rattle.shard.proofs.Common.{◌≡◌, List, ◌++◌, take, Placed, records, put_of, HasWorked}
 use Rattle.shard.proofs.worker.Worker.apply_block.Given as goal
 
 abbrev pub invariant-loop-item : goal.invariant-loop-item

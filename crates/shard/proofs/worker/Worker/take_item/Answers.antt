@@ -1,16 +1,4 @@
-use Rattle.std.proofs.Common.{◌≡◌, Bool, ◌+◌, ◌++◌, [], ◌∷◌, List, Option, Some, None, map, true, false, refl, sym, ap, subst, ◌∙◌, append-nil}
-use Rattle.std.specs.Option.{option_to_list}
-use Rattle.dag.specs.Accesses.{RaceAt}
-use Rattle.dag.specs.declared.records.Placed.{Placed}
-use Rattle.dag.specs.declared.back.Back.{Back}
-use Rattle.lane.specs.declared.item.Item.{Item}
-use Rattle.lane.specs.declared.item.Item.TheVariants.{One}
-use Rattle.shadow.specs.Found.{found}
-use Rattle.shadow.specs.Shadow.{HaveSeen}
-use Rattle.lane.specs.Items.{records}
-use Rattle.lane.specs.Lanes.{put_of}
-use Rattle.shard.specs.Shards.{ShardState, Accepts, capped_count}
-use Rattle.shard.specs.Working.{HasWorked}
+use Rattle.shard.proofs.Common.{◌≡◌, Bool, ◌+◌, ◌++◌, [], ◌∷◌, List, Option, Some, None, map, true, false, refl, sym, ap, subst, ◌∙◌, append-nil, option_to_list, RaceAt, Placed, Back, Item, One, found, HaveSeen, records, put_of, ShardState, Accepts, capped_count, HasWorked}
 use Rattle.shard.proofs.Works.{worked_applied, worked_refused, worked_skipped}
 use Rattle.shard.proofs.worker.Worker.take_item.Goals as goal
 use Rattle.shard.proofs.worker.Worker.take_item.Goals.{then-self-via-then-self, then-self-via-else-self+then-not-accepts}

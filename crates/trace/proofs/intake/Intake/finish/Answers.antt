@@ -1,11 +1,4 @@
-use Rattle.std.proofs.Common.{◌≡◌, ℕ, List, Err, inr, rules, refl, sym, ap, subst, ◌∙◌}
-use Rattle.trace.specs.declared.intake.Ending.TheVariants.{Running}
-use Rattle.trace.specs.declared.faults.NestFault.{NestFault}
-use Rattle.trace.specs.declared.faults.Fault.TheVariants.{Text, Nest}
-use Rattle.trace.specs.Devices.{◌⇝◌}
-use Rattle.trace.specs.Faults.{IsFaultOfAll}
-use Rattle.trace.specs.Reading.{HasRead}
-use Rattle.trace.specs.Feeding.{Feeding, IsFaultFed, IsNext}
+use Rattle.trace.proofs.Common.{◌≡◌, ℕ, List, Err, inr, rules, refl, sym, ap, subst, ◌∙◌, Running, NestFault, Text, Nest, ◌⇝◌, IsFaultOfAll, HasRead, Feeding, IsFaultFed, IsNext}
 use Rattle.trace.specs.contracts.intake.Intake.{the_view}
 use Rattle.trace.proofs.Feedings.{read_all, fault_of_rest, fault_of_end}
 use Rattle.trace.proofs.Nexts.{next_fault, nothing_came}

@@ -1,6 +1,4 @@
-use Rattle.std.proofs.Common.{rules, ◌≡◌, subst}
-use Rattle.trace.specs.Devices.{◌⇝◌}
-use Rattle.trace.specs.Feeding.{Feeding, IsNext}
+use Rattle.trace.proofs.Common.{rules, ◌≡◌, subst, ◌⇝◌, Feeding, IsNext}
 use Rattle.trace.proofs.intake.Intake.next_from.Goals as goal
 
 pub returns-in-Some-clause-next : goal.returns-in-Some-clause-next

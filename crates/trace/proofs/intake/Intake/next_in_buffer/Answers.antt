@@ -1,14 +1,4 @@
-use Rattle.std.proofs.Common.{◌≡◌, ℕ, ◌+◌, ◌∷◌, ◌++◌, ◌-◌, [], List, Option, Some, None, length, drop, Ok, Err, inl, rules, arith, refl, sym, ap, subst, ◌∙◌}
-use Rattle.std.specs.Option.{option_to_list}
-use Rattle.std.proofs.lemmas.List.{append-nil, length-take, length-drop}
-use Rattle.dag.specs.declared.records.Record.{Record}
-use Rattle.trace.specs.declared.intake.Ending.TheVariants.{Running}
-use Rattle.trace.specs.declared.faults.Fault.TheVariants.{Text, Nest}
-use Rattle.trace.specs.Devices.{◌⇝◌}
-use Rattle.trace.specs.Faults.{IsBadLine, IsFirstFault}
-use Rattle.trace.specs.Reading.{held_back}
-use Rattle.trace.specs.Feeding.{Feeding, HasUsed, HasFed, IsFaultFed, IsNext}
-use Rattle.trace.specs.UsedUp.{HasUsedAll}
+use Rattle.trace.proofs.Common.{◌≡◌, ℕ, ◌+◌, ◌∷◌, ◌++◌, ◌-◌, [], List, Option, Some, None, length, drop, Ok, Err, inl, rules, arith, refl, sym, ap, subst, ◌∙◌, option_to_list, append-nil, Record, Running, Text, Nest, ◌⇝◌, IsBadLine, IsFirstFault, held_back, Feeding, HasUsed, HasFed, IsFaultFed, IsNext, HasUsedAll, length-take, length-drop}
 use Rattle.trace.specs.contracts.intake.Intake.{the_view}
 use Rattle.trace.proofs.Feedings.{used_front, first_line_fault, first_place_fault_at, consumes_none, answered_running, next_of_running}
 use Rattle.trace.proofs.Nexts.{next_fault, nothing_came}

@@ -1,8 +1,4 @@
-use Rattle.std.proofs.Common.{rules, ◌≡◌, ◌+◌, ◌-◌, ◌++◌, ◌∷◌, [], ℕ, List, take, drop, refl, ap, sym, subst, ◌∙◌}
-use Rattle.std.proofs.lemmas.List.{append-nil}
-use Rattle.trace.specs.declared.intake.Ending.TheVariants.{Running}
-use Rattle.trace.specs.Feeding.{Feeding, HasUsed, HasFed}
-use Rattle.trace.specs.Reading.{Reading, HasRead}
+use Rattle.trace.proofs.Common.{rules, ◌≡◌, ◌+◌, ◌-◌, ◌++◌, ◌∷◌, [], ℕ, List, take, drop, refl, ap, sym, subst, ◌∙◌, append-nil, Running, Feeding, HasUsed, HasFed, Reading, HasRead}
 use Rattle.trace.proofs.Feedings.{used_front, consumes_none, answered_running, next_of_running}
 use Rattle.trace.proofs.intake.Intake.next_known.Goals as goal
 

@@ -1,5 +1,4 @@
-use Rattle.std.proofs.Common.{ap, rules}
-use Rattle.std.proofs.Common.{Ok}
+use Rattle.std.proofs.Common.{ap, rules, Ok}
 use Rattle.trace.proofs.Nexts.{next_after, next_error, read_failed, read_more, used_all}
 use Rattle.trace.proofs.intake.Intake.read_on.Goals as goal
 

@@ -1,6 +1,4 @@
-use Rattle.std.proofs.Common.{◌-◌}
-use Rattle.trace.specs.Devices.{◌⇝◌}
-use Rattle.trace.specs.Reading.{held_back}
+use Rattle.trace.proofs.Common.{◌-◌, ◌⇝◌, held_back}
 use Rattle.trace.proofs.Nexts.{HasReadOn}
 use Rattle.trace.proofs.intake.Intake.read_on.Given as goal
 

@@ -1,5 +1,4 @@
-use Rattle.std.proofs.Common.{◌≡◌, false, ⊎_elim, ap, sym, subst, ◌∙◌, arith}
-use Rattle.trace.specs.Nesting.{Nesting, HasNested}
+use Rattle.trace.proofs.Common.{◌≡◌, false, ⊎_elim, ap, sym, subst, ◌∙◌, arith, Nesting, HasNested}
 use Rattle.trace.proofs.Nestings.{misplaced_after_end, misplaced_deep, accepted_root_return}
 use Rattle.trace.proofs.nesting.Nest.accept.Goals as goal
 use Rattle.trace.proofs.nesting.Nest.accept.Goals.{in_default-via-in-Return+else-self-eq0, in_default-via-in_default}

@@ -1,5 +1,4 @@
-use Rattle.std.proofs.Common.{◌≡◌, false, ap, sym, subst, ◌∙◌, arith}
-use Rattle.trace.specs.Nesting.{Nesting, HasNested}
+use Rattle.trace.proofs.Common.{◌≡◌, false, ap, sym, subst, ◌∙◌, arith, Nesting, HasNested}
 use Rattle.trace.proofs.Nestings.{accepted_opener, accepted_return, accepted_other}
 use Rattle.trace.proofs.nesting.Nest.accept_inside.Goals as goal
 use Rattle.trace.proofs.nesting.Nest.accept_inside.Goals.{in-Spawn+else-self, in-Return+else-self-eq0, in-Sync}

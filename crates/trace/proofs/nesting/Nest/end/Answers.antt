@@ -1,5 +1,4 @@
-use Rattle.std.proofs.Common.{ap, sym, ◌∙◌}
-use Rattle.trace.specs.Nesting.{Nesting}
+use Rattle.trace.proofs.Common.{ap, sym, ◌∙◌, Nesting}
 use Rattle.trace.proofs.Nestings.{well_nested}
 use Rattle.trace.proofs.nesting.Nest.end.Goals as goal
 

@@ -1,5 +1,4 @@
-use Rattle.std.proofs.Common.{◌≡◌, ◌≢◌, [], length, None, is_some, IsTrue, sym, ap, subst, ◌∙◌, arith}
-use Rattle.trace.specs.Reading.{Reading}
+use Rattle.trace.proofs.Common.{◌≡◌, ◌≢◌, [], length, None, is_some, IsTrue, sym, ap, subst, ◌∙◌, arith, Reading}
 use Rattle.trace.proofs.Readings.{none_of, some_of, some_version, truncated_header, truncated_line}
 use Rattle.trace.proofs.Cuttings.{first_not_text, cut_not_text}
 use Rattle.trace.proofs.reading.Reader.end.Goals as goal

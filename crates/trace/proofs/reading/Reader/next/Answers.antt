@@ -1,7 +1,4 @@
-use Rattle.std.proofs.Common.{◌≡◌, ◌++◌, ℕ, List, take, subst, sym, ap, ◌∙◌, ◌-◌, length, arith}
-use Rattle.trace.specs.Text.{IsUnended}
-use Rattle.trace.specs.Faults.{IsNoRecord}
-use Rattle.trace.specs.Reading.{Reading}
+use Rattle.trace.proofs.Common.{◌≡◌, ◌++◌, ℕ, List, take, subst, sym, ap, ◌∙◌, ◌-◌, length, arith, IsUnended, IsNoRecord, Reading}
 use Rattle.trace.proofs.Readings.{past_limit, bad_at_end, bad_long}
 use Rattle.trace.proofs.reading.Reader.next.Goals as goal
 

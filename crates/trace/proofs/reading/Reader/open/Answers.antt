@@ -1,8 +1,4 @@
-use Rattle.std.proofs.Common.{◌≡◌, ◌++◌, ℕ, List, Option, IfNone, take, subst, ap, ◌∙◌, ◌-◌, length, arith}
-use Rattle.dag.specs.declared.records.Version.{Version}
-use Rattle.trace.specs.Text.{IsUnended}
-use Rattle.trace.specs.Faults.{IsNoHeader}
-use Rattle.trace.specs.Reading.{Reading}
+use Rattle.trace.proofs.Common.{◌≡◌, ◌++◌, ℕ, List, Option, IfNone, take, subst, ap, ◌∙◌, ◌-◌, length, arith, Version, IsUnended, IsNoHeader, Reading}
 use Rattle.trace.proofs.Readings.{header_at_end, header_long}
 use Rattle.trace.proofs.reading.Reader.open.Goals as goal
 

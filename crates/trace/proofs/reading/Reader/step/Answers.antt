@@ -1,7 +1,4 @@
-use Rattle.std.proofs.Common.{◌++◌, ◌∷◌, [], ℕ, List, IfSome, subst}
-use Rattle.std.specs.Option.{option_to_list}
-use Rattle.dag.specs.declared.records.Record.{Record}
-use Rattle.trace.specs.Reading.{HasRead, AreText}
+use Rattle.trace.proofs.Common.{◌++◌, ◌∷◌, [], ℕ, List, IfSome, subst, option_to_list, Record, HasRead, AreText}
 use Rattle.trace.proofs.Readings.{up_to_line_end}
 use Rattle.trace.proofs.Texts.{take_rest}
 use Rattle.trace.proofs.reading.Reader.step.Goals as goal
