@@ -5,8 +5,7 @@ use Rattle.clap.specs.Walk.{Row, Text, first_of, all_of}
 use Rattle.clap.specs.Simple.{subcommand_of}
 use Rattle.words.specs.declared.asking.Question.TheVariants.{Check, Pairs, Explain, Measure}
 use Rattle.words.specs.declared.asking.CheckWords.{CheckWords}
-use Rattle.words.specs.declared.asking.PairsWords.{PairsWords}
-use Rattle.words.specs.declared.asking.ExplainWords.{ExplainWords}
+use Rattle.words.specs.declared.asking.LocationWords.{LocationWords}
 use Rattle.words.specs.declared.asking.MeasureWords.{MeasureWords}
 use Rattle.words.specs.declared.asking.ConfirmWords.{ConfirmWords}
 use Rattle.words.specs.declared.asking.MergeWords.{MergeWords}
@@ -37,15 +36,10 @@ pub record MeansCheck (c : CheckWords) (rows : List Row) : Type 0 where
   pub part : IsPartAsked (first_of (codes "part") rows) c.part
   pub trace : IsNamedBy (codes "FILE") rows c.trace
 
-pub record MeansPairs (p : PairsWords) (rows : List Row) : Type 0 where
-  pub depth : IsDepthAsked rows p.depth
-  pub trace : IsNamedBy (codes "FILE") rows p.trace
-  pub location : IsLocationAsked rows p.location
-
-pub record MeansExplain (e : ExplainWords) (rows : List Row) : Type 0 where
-  pub depth : IsDepthAsked rows e.depth
-  pub trace : IsNamedBy (codes "FILE") rows e.trace
-  pub location : IsLocationAsked rows e.location
+pub record MeansLocation (l : LocationWords) (rows : List Row) : Type 0 where
+  pub depth : IsDepthAsked rows l.depth
+  pub trace : IsNamedBy (codes "FILE") rows l.trace
+  pub location : IsLocationAsked rows l.location
 
 pub record MeansMeasure (m : MeasureWords) (rows : List Row) : Type 0 where
   pub depth : IsDepthAsked rows m.depth
@@ -66,8 +60,8 @@ Enters entered command P = (rows : List Row) × (entered ≡ Some (command, rows
 
 abbrev pub MeansOf : Option (Text × List Row) → Asked → Type 0
 MeansOf entered (asked.Question (Check c)) = Enters entered (codes "check") (MeansCheck c)
-MeansOf entered (asked.Question (Pairs p)) = Enters entered (codes "pairs") (MeansPairs p)
-MeansOf entered (asked.Question (Explain e)) = Enters entered (codes "explain") (MeansExplain e)
+MeansOf entered (asked.Question (Pairs p)) = Enters entered (codes "pairs") (MeansLocation p)
+MeansOf entered (asked.Question (Explain e)) = Enters entered (codes "explain") (MeansLocation e)
 MeansOf entered (asked.Question (Measure m)) = Enters entered (codes "measure") (MeansMeasure m)
 MeansOf entered (asked.Confirm c) = Enters entered (codes "confirm") (MeansConfirm c)
 MeansOf entered (asked.Merge m) = Enters entered (codes "merge") (MeansMerge m)

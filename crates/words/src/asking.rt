@@ -22,9 +22,9 @@ pub enum Question {
     /// The races of a trace.
     Check(CheckWords),
     /// All races of one location.
-    Pairs(PairsWords),
+    Pairs(LocationWords),
     /// Why one location is racy.
-    Explain(ExplainWords),
+    Explain(LocationWords),
     /// The numbers of a trace.
     Measure(MeasureWords),
 }
@@ -48,22 +48,9 @@ pub struct CheckWords {
     ghost trace_named: { 0 < string_len trace },
 }
 
-/// `pairs`: all races of one location.
+/// `pairs` and `explain`: what is asked of one location.
 #[derive(Debug, Drop, PartialEq, Eq)]
-pub struct PairsWords {
-    /// The maximum nesting of spawns and calls.
-    pub depth: u32,
-    /// The name of the trace's file; `-` is standard input.
-    pub trace: String,
-    /// The location.
-    pub location: u64,
-    ghost depth_within: { IsDepth depth },
-    ghost trace_named: { 0 < string_len trace },
-}
-
-/// `explain`: why one location is racy.
-#[derive(Debug, Drop, PartialEq, Eq)]
-pub struct ExplainWords {
+pub struct LocationWords {
     /// The maximum nesting of spawns and calls.
     pub depth: u32,
     /// The name of the trace's file; `-` is standard input.

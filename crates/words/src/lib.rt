@@ -6,7 +6,7 @@ mod commands;
 mod reading;
 
 pub use asking::{
-    Asked, CheckWords, ConfirmWords, ExplainWords, MeasureWords, MergeWords, PairsWords, Question,
+    Asked, CheckWords, ConfirmWords, LocationWords, MeasureWords, MergeWords, Question,
 };
 pub use commands::VERSION;
 pub use reading::{WordsFault, read_words};

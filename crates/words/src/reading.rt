@@ -3,14 +3,14 @@ ghost use Rattle.std.specs.Prelude.{◌≡◌, ◌<◌, ◌≤◌, codes, decima
 ghost use Rattle.dag.specs.Bounds.{IsShardCount, IsCapacity, IsDepth};
 ghost use Rattle.words.specs.Asked.{IsInRange};
 ghost use Rattle.words.specs.Meaning.{IsDepthAsked, IsLocationAsked, IsNamedBy, IsNumberAsked, Means, MeansOf};
-ghost use Rattle.words.specs.Meaning.{MeansCheck, MeansPairs, MeansExplain, MeansMeasure, MeansConfirm, MeansMerge};
+ghost use Rattle.words.specs.Meaning.{MeansCheck, MeansLocation, MeansMeasure, MeansConfirm, MeansMerge};
 ghost use Rattle.words.specs.Names.{IsName, IsPartAsked, part_text};
 ghost use Rattle.words.specs.Matched.{rows_in};
 ghost use Rattle.clap.specs.Walk.{first_of, all_of};
 ghost use Rattle.clap.specs.Simple.{subcommand_rows_of};
 
 use crate::asking::{
-    Asked, CheckWords, ConfirmWords, ExplainWords, MeasureWords, MergeWords, PairsWords, Question,
+    Asked, CheckWords, ConfirmWords, LocationWords, MeasureWords, MergeWords, Question,
 };
 use crate::commands::program;
 use clap::error::ErrorKind;
@@ -81,10 +81,10 @@ fn asked_of(alloc: Global, matches: &ArgMatches<'_>) -> Result<Asked, WordsFault
         return Ok(Asked::Question(Question::Check(check_of(alloc, found)?)));
     }
     if let Some(found) = entered(matches, "pairs") {
-        return Ok(Asked::Question(Question::Pairs(pairs_of(alloc, found)?)));
+        return Ok(Asked::Question(Question::Pairs(of_location(alloc, found)?)));
     }
     if let Some(found) = entered(matches, "explain") {
-        return Ok(Asked::Question(Question::Explain(explain_of(alloc, found)?)));
+        return Ok(Asked::Question(Question::Explain(of_location(alloc, found)?)));
     }
     if let Some(found) = entered(matches, "measure") {
         return Ok(Asked::Question(Question::Measure(measure_of(alloc, found)?)));
@@ -135,26 +135,14 @@ fn check_of(alloc: Global, found: &ArgMatches<'_>) -> Result<CheckWords, WordsFa
     })
 }
 
-fn pairs_of(alloc: Global, found: &ArgMatches<'_>) -> Result<PairsWords, WordsFault>
-    ensures { IfOk result (λ pairs. MeansPairs pairs (rows_in found.now)) }
+// What `pairs` or `explain` is asked.
+fn of_location(alloc: Global, found: &ArgMatches<'_>) -> Result<LocationWords, WordsFault>
+    ensures { IfOk result (λ asked. MeansLocation asked (rows_in found.now)) }
 {
     let depth = depth_of(found)?;
     let trace = name_of(alloc, found, "FILE")?;
     let location = location_of(found)?;
-    Ok(PairsWords {
-        depth,
-        trace,
-        location,
-    })
-}
-
-fn explain_of(alloc: Global, found: &ArgMatches<'_>) -> Result<ExplainWords, WordsFault>
-    ensures { IfOk result (λ explain. MeansExplain explain (rows_in found.now)) }
-{
-    let depth = depth_of(found)?;
-    let trace = name_of(alloc, found, "FILE")?;
-    let location = location_of(found)?;
-    Ok(ExplainWords {
+    Ok(LocationWords {
         depth,
         trace,
         location,

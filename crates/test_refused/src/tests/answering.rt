@@ -9,7 +9,7 @@ use std::sync::Wait;
 use std::thread::Threads;
 use std::time::Clock;
 use trace::{Counted, Part};
-use words::{CheckWords, ConfirmWords, MeasureWords, PairsWords, Question};
+use words::{CheckWords, ConfirmWords, LocationWords, MeasureWords, Question};
 
 /// Row `write-write`.
 const WRITE_WRITE: &[u8] = b"trace 1\nspawn\nwrite 5\nreturn\nwrite 5\nreturn\n";
@@ -112,7 +112,7 @@ fn check(alloc: Global) -> Result<Question, AllocError> {
 }
 
 fn pairs(alloc: Global, location: u64) -> Result<Question, AllocError> {
-    Ok(Question::Pairs(PairsWords {
+    Ok(Question::Pairs(LocationWords {
         depth: 9,
         trace: String::from_str(alloc, "-")?,
         location,

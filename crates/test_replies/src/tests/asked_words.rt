@@ -29,14 +29,14 @@ fn said_of_line(alloc: Global, line: &str) -> Result<String, AllocError> {
 
 // Command lines, and what they ask for.
 const ASKED: &str =
-    r#"pairs run.trace 5 => Question(Pairs(PairsWords { depth: 65536, trace: "run.trace", location: 5 }))
-pairs - 0 => Question(Pairs(PairsWords { depth: 65536, trace: "-", location: 0 }))
-pairs --depth 0 - 7 => Question(Pairs(PairsWords { depth: 0, trace: "-", location: 7 }))
-pairs a --depth=1000000 7 => Question(Pairs(PairsWords { depth: 1000000, trace: "a", location: 7 }))
-explain run.trace 5 => Question(Explain(ExplainWords { depth: 65536, trace: "run.trace", location: 5 }))
-explain - 0 => Question(Explain(ExplainWords { depth: 65536, trace: "-", location: 0 }))
-explain --depth 0 - 7 => Question(Explain(ExplainWords { depth: 0, trace: "-", location: 7 }))
-explain a --depth=1000000 7 => Question(Explain(ExplainWords { depth: 1000000, trace: "a", location: 7 }))
+    r#"pairs run.trace 5 => Question(Pairs(LocationWords { depth: 65536, trace: "run.trace", location: 5 }))
+pairs - 0 => Question(Pairs(LocationWords { depth: 65536, trace: "-", location: 0 }))
+pairs --depth 0 - 7 => Question(Pairs(LocationWords { depth: 0, trace: "-", location: 7 }))
+pairs a --depth=1000000 7 => Question(Pairs(LocationWords { depth: 1000000, trace: "a", location: 7 }))
+explain run.trace 5 => Question(Explain(LocationWords { depth: 65536, trace: "run.trace", location: 5 }))
+explain - 0 => Question(Explain(LocationWords { depth: 65536, trace: "-", location: 0 }))
+explain --depth 0 - 7 => Question(Explain(LocationWords { depth: 0, trace: "-", location: 7 }))
+explain a --depth=1000000 7 => Question(Explain(LocationWords { depth: 1000000, trace: "a", location: 7 }))
 measure - => Question(Measure(MeasureWords { depth: 65536, trace: "-" }))
 measure - --depth 3 => Question(Measure(MeasureWords { depth: 3, trace: "-" }))
 confirm run.trace run.report => Confirm(ConfirmWords { depth: 65536, trace: "run.trace", report: "run.report" })
@@ -110,10 +110,10 @@ check --shards 5 --part 2/3 --depth 6 -
 Check(CheckWords { shards: 5, capacity: 1024, depth: 6, part: Part { index: 2, count: 3 }, trace: "-" })
 
 pairs - 18446744073709551615
-Pairs(PairsWords { depth: 65536, trace: "-", location: 18446744073709551615 })
+Pairs(LocationWords { depth: 65536, trace: "-", location: 18446744073709551615 })
 
 explain - 18446744073709551615
-Explain(ExplainWords { depth: 65536, trace: "-", location: 18446744073709551615 })"#;
+Explain(LocationWords { depth: 65536, trace: "-", location: 18446744073709551615 })"#;
 
 #[test]
 fn reads_command_lines(rt: HostRuntime) -> Result<(), Fail> {
