@@ -1,19 +1,13 @@
 -- A procedure stands in a P-bag exactly where its places are parallel to the next place.
-use Rattle.std.proofs.Common.{◌≡◌, ℕ, zero, suc, ◌≤◌, ◌↔◌, Bool, true, false, ◌||◌, List, [], ◌∷◌, length, take, slice_get, Option, Some, None, inl, inr, refl, sym, ◌∙◌, subst, ap, arith}
-use Rattle.std.proofs.lemmas.Bool.{cases_Bool, both_ways, or_cases}
+use Rattle.bags.proofs.Common.{◌≡◌, ℕ, zero, suc, ◌≤◌, ◌↔◌, Bool, true, false, ◌||◌, List, [], ◌∷◌, length, take, slice_get, Option, Some, None, inl, inr, refl, sym, ◌∙◌, subst, ap, arith, cases_Bool, both_ways, or_cases, Spawn, Call, Return, Sync, Read, Write, World, Shape, Step, spawn, call, joins, pending-parallel, parallel-pending, access-place, access-not_joins, IsPlace-at, leads_or_parallel, Active, Procedures, event, bags_from, bags_after, in_p, current, procedure_at, Kept, Serial, kept-pending, serial-not_pending}
 use Rattle.std.specs.FinSet as set
 use Rattle.dag.specs.declared.records.Record.{Record}
-use Rattle.dag.specs.declared.records.Record.TheVariants.{Spawn, Call, Return, Sync, Read, Write}
 use Rattle.dag.specs.Traces.{at, placed, placed_from, depth, IsPlace, IsWellNested}
 use Rattle.dag.specs.Dag.{JoinsAt, Leads, IsParallel}
 use Rattle.dag.specs.Races.{IsAccessPlace}
-use Rattle.dag.proofs.World.{World, Shape, Step, spawn, call, joins}
 use Rattle.dag.proofs.Lists.{element_at}
 use Rattle.dag.proofs.Traced.{traced, is_call, opener_of, opener-is, shape_of, shape_at, called_shape, spawned_shape, step_at, not_joined}
-use Rattle.dag.proofs.Paths.{pending-parallel, parallel-pending, access-place, access-not_joins, IsPlace-at, leads_or_parallel}
-use Rattle.bags.specs.Procedures.{Active, Procedures, event, bags_from, bags_after, in_p, current, procedure_at}
 use Rattle.bags.specs.Paths.{DecidesPaths, IsCompletedAt}
-use Rattle.dag.proofs.Standing.{Kept, Serial, kept-pending, serial-not_pending}
 use Rattle.bags.proofs.Stack.{AllStand, one_more, somewhere, Invariant, IsEnding, opening, closing, at_start, at_access, at_sync, at_return, at_enter}
 
 -- the bags after one record more

@@ -1,15 +1,6 @@
 -- How many stretches the bags make up: as many as are held.
-use Rattle.std.proofs.Common.{◌≡◌, ℕ, zero, suc, ◌<◌, ◌≤◌, Bool, true, false, not, ◌||◌, ◌&&◌, eqb, ltb, if◌then◌else◌, List, [], ◌∷◌, ◌++◌, reverse, length, take, drop, ◌+◌, inl, inr, refl, sym, ap, ◌∙◌, ◌⊎◌, arith}
-use Rattle.std.proofs.lemmas.Bool.{cases_eq, cases_lt, lt-ltb, le-ltb, eq-eqb, ne_eqb}
-use Rattle.std.specs.List.{list_any}
+use Rattle.bags.proofs.Common.{◌≡◌, ℕ, zero, suc, ◌<◌, ◌≤◌, Bool, true, false, not, ◌||◌, ◌&&◌, eqb, ltb, if◌then◌else◌, List, [], ◌∷◌, ◌++◌, reverse, length, take, drop, ◌+◌, inl, inr, refl, sym, ap, ◌∙◌, ◌⊎◌, arith, cases_eq, cases_lt, lt-ltb, le-ltb, eq-eqb, ne_eqb, list_any, length-take-le, length-reverse, most_records, Nested, Active, Stretch, start, active_of, actives_of, procedures_of, AreAlternating, AreCut, AreHeld, in_one_bag, stretches_of, stretches}
 use Rattle.std.specs.FinSet as bag
-use Rattle.std.proofs.lemmas.List.{length-take-le, length-reverse}
-use Rattle.dag.specs.Bounds.{most_records}
-use Rattle.bags.specs.Nested.{Nested}
-use Rattle.bags.specs.Procedures.{Active}
-use Rattle.bags.specs.Stretch.{Stretch}
-use Rattle.bags.specs.Held.{start, active_of, actives_of, procedures_of, AreAlternating, AreCut, AreHeld}
-use Rattle.bags.specs.Stretches.{in_one_bag, stretches_of, stretches}
 use Rattle.bags.proofs.Segments.{Ascends, any_of, turns_ascend, start_most, contains-bag_of, none_before, none_after, in_the_first, past_the_first}
 use Rattle.bags.proofs.Cuts.{Parts, parts, actives-cut, all_ascend, first_root, stretch_some}
 

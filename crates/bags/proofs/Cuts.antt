@@ -1,15 +1,7 @@
 -- Active procedures by their stretches: what a spawn, a call, a sync, a return and a look-up do to them.
-use Rattle.std.proofs.Common.{◌≡◌, ℕ, suc, ◌+◌, ◌-◌, ◌<◌, ◌≤◌, Bool, true, false, not, ◌||◌, List, [], ◌∷◌, ◌++◌, reverse, length, take, drop, get_or, inl, inr, ◌⊎◌, refl, sym, ap, subst, ◌∙◌, arith}
-use Rattle.std.proofs.lemmas.List.{take-append-drop, length-take-le, length-drop, length-append, length-reverse, reverse-append, get_or-reverse, get_or-append-add, append_assoc}
+use Rattle.bags.proofs.Common.{◌≡◌, ℕ, suc, ◌+◌, ◌-◌, ◌<◌, ◌≤◌, Bool, true, false, not, ◌||◌, List, [], ◌∷◌, ◌++◌, reverse, length, take, drop, get_or, inl, inr, ◌⊎◌, refl, sym, ap, subst, ◌∙◌, arith, take-append-drop, length-take-le, length-drop, length-append, length-reverse, reverse-append, get_or-reverse, get_or-append-add, append_assoc, Nested, Procedures, at_start, opened, entered, adopts, after_sync, after_return, in_p, event, current, Sync, Return, Stretch, most_records, first_at, start, active_of, actives_of, procedures_of, AreAlternating, AreCut, AreHeld}
 use Rattle.std.proofs.Math.Seq.{take-append_seam, drop-append_seam, take-append-add, get_or-append_seam}
 use Rattle.std.proofs.Math.ListN.{get_or-append}
-use Rattle.bags.specs.Nested.{Nested}
-use Rattle.bags.specs.Procedures.{Procedures, at_start, opened, entered, adopts, after_sync, after_return, in_p, event, current}
-use Rattle.dag.specs.declared.records.Record.TheVariants.{Sync, Return}
-use Rattle.bags.specs.Stretch.{Stretch}
-use Rattle.dag.specs.Bounds.{most_records}
-use Rattle.bags.specs.Search.{first_at}
-use Rattle.bags.specs.Held.{start, active_of, actives_of, procedures_of, AreAlternating, AreCut, AreHeld}
 use Rattle.bags.proofs.Segments.{Ascends, AreGrown, any_of, after, turns_ascend, start_most, contains-bag_of, opened_is, synced_is, adopted, grown_wider, grown_longer, last_kind, first_at-start, start-both, at_keeper, first_at_is, first_at-drop, any_of-append, ascends-append}
 
 -- the executing procedure's stretches follow those of all others

@@ -1,13 +1,8 @@
 -- A search by steps that are powers of two: what it knows after so many probes, and how many it makes.
-use Rattle.std.proofs.Common.{◌≡◌, ◌∙◌, ℕ, zero, suc, ◌+◌, ◌-◌, ◌*◌, ◌/◌, ◌^◌, ◌<◌, ◌≤◌, List, drop, get_or, length, refl, ap, sym, subst, arith}
-use Rattle.std.proofs.Math.Nat.{pow-zero, two-pow-succ, lt_of_not-le}
-use Rattle.std.proofs.lemmas.List.{drop-drop, get_or-drop, length-drop}
+use Rattle.bags.proofs.Common.{◌≡◌, ◌∙◌, ℕ, zero, suc, ◌+◌, ◌-◌, ◌*◌, ◌/◌, ◌^◌, ◌<◌, ◌≤◌, List, drop, get_or, length, refl, ap, sym, subst, arith, pow-zero, two-pow-succ, lt_of_not-le, drop-drop, get_or-drop, length-drop, Stretch, first_at, IsAscending, IsKeeper, Start, IsStart, digits}
 use Rattle.std.proofs.lemmas.Nat.{pow_pos}
 use Rattle.std.proofs.lemmas.Int.Digits.{length-digits_of_step, length-digits_of-le}
-use Rattle.bags.specs.Stretch.{Stretch}
-use Rattle.bags.specs.Search.{first_at, IsAscending, IsKeeper, Start, IsStart}
 use Rattle.bags.proofs.Segments.{first_at-drop}
-use Rattle.bags.specs.Numbers.{digits}
 
 -- a number from 2 ^ j on has more than j digits
 pub digits_from : (j n : ℕ) → 2 ^ j ≤ n → j + 1 ≤ digits n

@@ -1,3 +1,4 @@
+pub mod Common
 pub mod Stack
 pub mod BagPaths
 pub mod Segments

@@ -1,16 +1,8 @@
 -- Stretches that lie side by side: what they hold, and what joining and cutting them does.
-use Rattle.std.proofs.Common.{◌≡◌, ℕ, zero, suc, ◌+◌, ◌-◌, ◌<◌, ◌≤◌, Bool, true, false, not, ◌||◌, ◌&&◌, eqb, ltb, leb, List, [], ◌∷◌, ◌++◌, length, take, drop, get_or, refl, sym, ap, subst, ◌∙◌, arith, if◌then◌else◌}
-use Rattle.std.proofs.lemmas.Bool.{lt-ltb, le-ltb, lt-leb, le-leb}
+use Rattle.bags.proofs.Common.{◌≡◌, ℕ, zero, suc, ◌+◌, ◌-◌, ◌<◌, ◌≤◌, Bool, true, false, not, ◌||◌, ◌&&◌, eqb, ltb, leb, List, [], ◌∷◌, ◌++◌, length, take, drop, get_or, refl, sym, ap, subst, ◌∙◌, arith, if◌then◌else◌, lt-ltb, le-ltb, lt-leb, le-leb, list_any, range_with_len, nat_cmp_total, nat_cmp, Bag, opened, synced, adopts, Stretch, first_at, IsAscending, run, start, is_of, bag_of, active_of, AreAlternating}
 use Rattle.std.proofs.lemmas.Bool.Decides.{nat_tests}
 use Rattle.std.specs.Prelude.{⊤}
-use Rattle.std.specs.List.{list_any, range_with_len}
-use Rattle.std.specs.Cmp.{nat_cmp_total}
-use Rattle.std.specs.Ordering.{nat_cmp}
 use Rattle.std.specs.FinSet as bag
-use Rattle.bags.specs.Procedures.{Bag, opened, synced, adopts}
-use Rattle.bags.specs.Stretch.{Stretch}
-use Rattle.bags.specs.Search.{first_at, IsAscending}
-use Rattle.bags.specs.Held.{run, start, is_of, bag_of, active_of, AreAlternating}
 
 any-range : (from len q : ℕ) → list_any (λ y. eqb y q) (range_with_len from len) ≡ (leb from q && ltb q (from + len))
 any-range from zero q = grind (arith, nat_tests)

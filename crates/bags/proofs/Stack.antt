@@ -1,14 +1,7 @@
 -- The bags after t records: at each level of the active procedures, the places of the procedures in the
 -- S-bag are serial, and those in the P-bag are kept parallel.
-use Rattle.std.proofs.Common.{◌≡◌, ℕ, zero, suc, ◌+◌, ◌-◌, ◌<◌, ◌≤◌, Bool, true, false, ◌||◌, List, [], ◌∷◌, length, ◌⊎◌, inl, inr, refl, sym, ◌∙◌, subst, ap, arith, eqb, if◌then◌else◌}
-use Rattle.std.proofs.lemmas.Bool.{cases_eq, both_ways, or_cases, eqb-true, eq-eqb}
-use Rattle.std.specs.List.{list_any}
-use Rattle.std.specs.Cmp.{nat_cmp_total}
-use Rattle.std.specs.Ordering.{nat_cmp}
+use Rattle.bags.proofs.Common.{◌≡◌, ℕ, zero, suc, ◌+◌, ◌-◌, ◌<◌, ◌≤◌, Bool, true, false, ◌||◌, List, [], ◌∷◌, length, ◌⊎◌, inl, inr, refl, sym, ◌∙◌, subst, ap, arith, eqb, if◌then◌else◌, cases_eq, both_ways, or_cases, eqb-true, eq-eqb, list_any, nat_cmp_total, nat_cmp, World, Shape, Step, spawn, call, spawned_return, called_return, joins, all_more, Bag, Active, opened, synced, adopts, after_sync, after_return, current, Kept, Serial, kept_stays, serial_stays, kept-above, kept_synced, returned, returned_call, serial_now, own-serial, own-kept}
 use Rattle.std.specs.FinSet as set
-use Rattle.dag.proofs.World.{World, Shape, Step, spawn, call, spawned_return, called_return, joins, all_more}
-use Rattle.bags.specs.Procedures.{Bag, Active, opened, synced, adopts, after_sync, after_return, current}
-use Rattle.dag.proofs.Standing.{Kept, Serial, kept_stays, serial_stays, kept-above, kept_synced, returned, returned_call, serial_now, own-serial, own-kept}
 
 -- the record that opens a procedure, and the one that ends it
 abbrev pub opening : Bool → Shape

@@ -1,11 +1,5 @@
 -- How readings that stand on one another end.
-use Rattle.std.proofs.Common.{◌≡◌, ℕ, List, Result, Ok, Err, ⊎_elim, subst}
-use Rattle.dag.specs.declared.records.Record.{Record}
-use Rattle.trace.specs.declared.faults.Fault.{Fault}
-use Rattle.trace.specs.declared.faults.Fault.TheVariants.{NoThread}
-use Rattle.trace.specs.Devices.{Change}
-use Rattle.trace.specs.Endings.{OfTrace, IsRefused, EndsReading, IsWantOfMemory}
-use Rattle.trace.proofs.Endings.{refused_also}
+use Rattle.detect.proofs.Common.{◌≡◌, ℕ, List, Result, Ok, Err, ⊎_elim, subst, Record, Fault, NoThread, Change, OfTrace, IsRefused, EndsReading, IsWantOfMemory, refused_also}
 
 module _ {T : Type 0} (IsWant : Fault → Type 0) (records depths : ℕ) (c : Change) (Says : T → List Record → Type 0) (r : Result T Fault) (ends : EndsReading IsWant records depths c Says r) where
   pub trace_of : (answer : T) → r ≡ Ok answer → OfTrace records depths c (Says answer)

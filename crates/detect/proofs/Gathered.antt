@@ -1,20 +1,9 @@
 -- What a collector was given, lane by lane: an item more of one lane, and the best race of a location.
-use Rattle.std.proofs.Common.{◌≡◌, ℕ, zero, suc, ◌+◌, ◌%◌, ◌<◌, true, false, eqb, fold, List, [], ◌∷◌, ◌++◌, length, set, get_or, slice_index_or, Option, None, ⊎_elim, length-set, refl, sym, ap, subst, ◌∙◌, arith}
-use Rattle.std.specs.List.{AllByRecursion}
-use Rattle.std.proofs.lemmas.Bool.{cases_eq, cases_Bool, cond-false, eqb-true}
+use Rattle.detect.proofs.Common.{◌≡◌, ℕ, zero, suc, ◌+◌, ◌%◌, ◌<◌, true, false, eqb, fold, List, [], ◌∷◌, ◌++◌, length, set, get_or, slice_index_or, Option, None, ⊎_elim, length-set, refl, sym, ap, subst, ◌∙◌, arith, eqb-true, append-nil, AllByRecursion, cases_eq, cases_Bool, cond-false, Back, Race, Item, One, Finish, records, RaceAt, all-front, all-last, Collection, KeepsBest, races_of, fails, kept_after, best, all_given, AreAtHomeFrom, AreAtHome, Gathers}
 use Rattle.std.proofs.lemmas.List.Sums.{fold-append}
-use Rattle.std.proofs.lemmas.List.{append-nil}
-use Rattle.dag.specs.declared.back.Back.{Back}
-use Rattle.dag.specs.declared.back.Back.TheVariants.{Race, NoMemory}
-use Rattle.lane.specs.declared.item.Item.{Item}
-use Rattle.lane.specs.declared.item.Item.TheVariants.{One, Finish}
-use Rattle.lane.specs.Items.{records}
+use Rattle.dag.specs.declared.back.Back.TheVariants.{NoMemory}
 use Rattle.lane.proofs.Marks.{records_one, records-finish}
-use Rattle.dag.specs.Accesses.{RaceAt}
-use Rattle.dag.proofs.Lists.{all-front, all-last}
-use Rattle.collect.specs.Collected.{Collection, KeepsBest, races_of, fails, kept_after, best}
 use Rattle.collect.proofs.Best.{races_of-append, fails-push_race, best-push}
-use Rattle.detect.specs.Gathered.{all_given, AreAtHomeFrom, AreAtHome, Gathers}
 
 -- what a lane gave, without the mark
 abbrev pub on_lane : List (List (Item Back)) → ℕ → List Back

@@ -1,19 +1,11 @@
 -- Of a source that shows its bytes: what is reported is said of the trace that they are the text of, and the fault is the
 -- first of these bytes.
-use Rattle.std.proofs.Common.{◌≡◌, ℕ, List, ◌++◌, false, Option, Some, None, ◌⊎◌, inl, inr, sym, ◌∙◌, ap, subst, arith, Result, Ok, Err, IfErr, MatchResult}
-use Rattle.std.proofs.lemmas.List.{append-nil}
+use Rattle.detect.proofs.Common.{◌≡◌, ℕ, List, ◌++◌, false, Option, Some, None, ◌⊎◌, inl, inr, sym, ◌∙◌, ap, subst, arith, Result, Ok, Err, IfErr, MatchResult, append-nil, Record, Fault, Text, Nest, Read, NoMemory, NoThread, IsWellNested, Device, Change, ◌⇝◌, HasFailed, IsFaultThen, IsFaultFed, ReadsWhole, IsRefused, EndsReading}
 use Rattle.std.specs.Io.KnownBytes.{Consumes, IsAtEnd}
 use Rattle.dag.specs.declared.records.Version.{Version}
-use Rattle.dag.specs.declared.records.Record.{Record}
-use Rattle.trace.specs.declared.faults.Fault.{Fault}
-use Rattle.trace.specs.declared.faults.Fault.TheVariants.{Text, Nest, Read, NoMemory, NoThread}
 use Rattle.trace.specs.Text.{text, AllFit}
-use Rattle.dag.specs.Traces.{IsWellNested}
 use Rattle.trace.specs.Faults.{IsFirstFault, IsFaultOfAll}
 use Rattle.trace.specs.Faults.IsFaultOfAll.{before_end}
-use Rattle.trace.specs.Devices.{Device, Change, ◌⇝◌, HasFailed}
-use Rattle.trace.specs.Feeding.{IsFaultThen, IsFaultFed}
-use Rattle.trace.specs.Endings.{ReadsWhole, IsRefused, EndsReading}
 use Rattle.trace.proofs.Readability.{text_injective}
 use Rattle.trace.proofs.Cuttings.{first_fault_more}
 

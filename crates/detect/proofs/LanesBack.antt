@@ -1,20 +1,8 @@
 -- One item more of one lane back.
-use Rattle.std.proofs.Common.{◌≡◌, ℕ, zero, suc, ◌+◌, ◌<◌, true, IsFalse, List, [], ◌∷◌, ◌++◌, length, take, set, get_or, slice_index_or, append_assoc, length-set, ⊎_elim, arith, refl, sym, ap, subst, ◌∙◌}
-use Rattle.std.proofs.lemmas.Bool.{cases_eq, cases_Bool}
+use Rattle.detect.proofs.Common.{◌≡◌, ℕ, zero, suc, ◌+◌, ◌<◌, true, IsFalse, List, [], ◌∷◌, ◌++◌, length, take, set, get_or, slice_index_or, append_assoc, length-set, ⊎_elim, arith, refl, sym, ap, subst, ◌∙◌, append-nil, get_or-set_same, set-set, take-suc, cases_eq, cases_Bool, map-set, get_or-map, set-get_or, length-map, map-set_same, Back, Race, Item, One, Finish, Taker, has_mark, Collection, KeepsBest, Gathering, given_by, with_items, Gathers, IsGathered, IsFurther}
 use Rattle.std.specs.Prelude.{Vec}
 use Rattle.std.specs.Vec.{with_item}
-use Rattle.std.proofs.lemmas.List.{append-nil, map-set, get_or-map, get_or-set_same, set-get_or, set-set, length-map}
-use Rattle.std.proofs.Math.Seq.{map-set_same, take-suc}
-use Rattle.dag.specs.declared.back.Back.{Back}
-use Rattle.dag.specs.declared.back.Back.TheVariants.{Race, NoMemory}
-use Rattle.lane.specs.declared.item.Item.{Item}
-use Rattle.lane.specs.declared.item.Item.TheVariants.{One, Finish}
-use Rattle.lane.specs.declared.taker.Taker.{Taker}
-use Rattle.lane.specs.Items.{has_mark}
-use Rattle.collect.specs.Collected.{Collection, KeepsBest}
-use Rattle.detect.specs.declared.gathering.Gathering.{Gathering}
-use Rattle.detect.specs.Gathered.{given_by, with_items, Gathers}
-use Rattle.detect.specs.LanesBack.{IsGathered, IsFurther}
+use Rattle.dag.specs.declared.back.Back.TheVariants.{NoMemory}
 use Rattle.detect.proofs.Gathered.{gathers-race, gathers-finish, gathers-refused}
 
 pub further_refl : (g : Gathering) → IsFurther g g

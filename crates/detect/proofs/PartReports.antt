@@ -1,21 +1,7 @@
 -- The answer of a run for a part, from that of its numbers; and of the whole, from that of a part.
-use Rattle.std.proofs.Common.{◌≡◌, ℕ, List, map, Result, Ok, Err, subst, sym, ◌∙◌}
-use Rattle.dag.specs.declared.records.Record.{Record}
-use Rattle.dag.specs.declared.records.Placed.{Placed}
-use Rattle.dag.specs.declared.part.Part.{Part}
-use Rattle.trace.specs.declared.faults.Fault.{Fault}
-use Rattle.dag.specs.Accesses.{RaceAt}
-use Rattle.trace.specs.Devices.{Device, Change, ◌⇝◌}
-use Rattle.trace.specs.Endings.{OfTrace, EndsReading}
-use Rattle.dag.specs.Traces.{placed, IsWellNested}
-use Rattle.shadow.specs.Found.{verdict}
+use Rattle.detect.proofs.Common.{◌≡◌, ℕ, List, map, Result, Ok, Err, subst, sym, ◌∙◌, Record, Placed, Part, Fault, RaceAt, Device, Change, ◌⇝◌, OfTrace, EndsReading, placed, IsWellNested, verdict, report_of, Run, RunAnswers, RunAnswersPart, TookSharesOf, RunFindsPart, part_report}
 use Rattle.collect.specs.Located.{located_at}
-use Rattle.verdict.proofs.Reports.{report_of}
 use Rattle.detect_plain.proofs.PartRecords.{records_of-whole, races_of-whole}
-use Rattle.detect_plain.proofs.PartReports.{part_report}
-use Rattle.detect.specs.declared.sharded.Run.{Run}
-use Rattle.detect.specs.RunReports.{RunAnswers, RunAnswersPart, TookSharesOf}
-use Rattle.detect.specs.RunFinds.{RunFindsPart}
 
 -- the report of the whole
 pub whole_answers : (part : Part) (n : ℕ) (w : List Record) {records depths : ℕ} (run : Run) → part.count ≡ 1 → IsWellNested w records depths → RunAnswersPart part n run w → RunAnswers n run w

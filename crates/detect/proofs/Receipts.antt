@@ -1,14 +1,5 @@
 -- One lane's receipt compared.
-use Rattle.std.proofs.Common.{◌≡◌, ℕ, zero, suc, ◌+◌, ◌<◌, true, List, [], ◌∷◌, ◌++◌, length, length-append, append-nil, map, set, get_or, sym, ap, ◌∙◌, arith}
-use Rattle.std.proofs.lemmas.List.{length-map, length-set, get_or-map, get_or-set_same, get_or-set_other, map-append, map-set, append_cancel_left}
-use Rattle.std.proofs.Math.Seq.{map-set_same}
-use Rattle.dag.specs.declared.records.Placed.{Placed}
-use Rattle.lane.specs.declared.item.Item.{Item}
-use Rattle.lane.specs.declared.taker.Taker.{Taker}
-use Rattle.lane.specs.Items.{has_mark, IsBeginning}
-use Rattle.lane.specs.Lanes.{put_of}
-use Rattle.shard.specs.declared.worker_loop.Worked.{Worked}
-use Rattle.detect.specs.Closing.{takers_of, IsSameWork, IsSettled, IsEmptied}
+use Rattle.detect.proofs.Common.{◌≡◌, ℕ, zero, suc, ◌+◌, ◌<◌, true, List, [], ◌∷◌, ◌++◌, length, length-append, append-nil, map, set, get_or, sym, ap, ◌∙◌, arith, length-set, get_or-set_same, get_or-set_other, length-map, get_or-map, map-append, map-set, append_cancel_left, map-set_same, Placed, Item, Taker, has_mark, IsBeginning, put_of, Worked, takers_of, IsSameWork, IsSettled, IsEmptied}
 use Rattle.detect.proofs.LanesBack.{ended_to}
 
 -- a list in front of another, which are the same as others, or are mapped

@@ -1,18 +1,5 @@
 -- How a run's end is answered.
-use Rattle.std.proofs.Common.{◌≡◌, ℕ, List, Bool, true, false, IsTrue, IsFalse, Result, Ok, Err, OnOk, IsErrAnd, inl, refl, sym, subst, ◌∙◌}
-use Rattle.dag.specs.declared.records.Record.{Record}
-use Rattle.dag.specs.declared.part.Part.{Part}
-use Rattle.trace.specs.declared.faults.Fault.{Fault}
-use Rattle.trace.specs.declared.faults.Fault.TheVariants.{NoMemory}
-use Rattle.dag.specs.Traces.{placed}
-use Rattle.dag.specs.Parts.{records_of}
-use Rattle.trace.specs.Devices.{Device, Change, ◌⇝◌}
-use Rattle.trace.specs.Endings.{OfTrace, IsRefused, EndsReading, IsWantOfMemoryOrThread}
-use Rattle.trace.proofs.Endings.{ends_refused, refused_for_want}
-use Rattle.detect.specs.declared.closing.Done.{Done}
-use Rattle.detect.specs.declared.sharded.Run.{Run}
-use Rattle.detect.specs.Finished.{IsFinished, IsDone}
-use Rattle.detect.specs.RunFinds.{RunFindsPart}
+use Rattle.detect.proofs.Common.{◌≡◌, ℕ, List, Bool, true, false, IsTrue, IsFalse, Result, Ok, Err, OnOk, IsErrAnd, inl, refl, sym, subst, ◌∙◌, Record, Part, Fault, NoMemory, placed, records_of, Device, Change, ◌⇝◌, OfTrace, IsRefused, EndsReading, IsWantOfMemoryOrThread, ends_refused, refused_for_want, Done, Run, IsFinished, IsDone, RunFindsPart}
 use Rattle.detect.proofs.Endings.{trace_of, refusal_of}
 
 same_err : (r : Result (Unit {0}) Fault) (a b : Fault) → r ≡ Err a → r ≡ Err b → a ≡ b

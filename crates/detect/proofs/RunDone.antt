@@ -1,40 +1,7 @@
 -- What a run among its workers comes to.
-use Rattle.std.proofs.Common.{◌≡◌, ℕ, ◌<◌, List, [], ◌∷◌, length, map, vec_len, None, Result, Ok, Err, OnOk, inl, inr, refl, suc, sym, ap, subst, ◌∙◌, arith}
-use Rattle.std.specs.List.{All, AllByRecursion}
-use Rattle.std.proofs.lemmas.List.{length-map}
-use Rattle.std.proofs.lemmas.List.Elements.{All-from_recursion}
-use Rattle.std.proofs.lemmas.Simd.{map-map}
-use Rattle.std.specs.declared.thread.PromisedHandle.{PromisedHandle}
-use Rattle.dag.specs.declared.records.Placed.{Placed}
-use Rattle.dag.specs.declared.part.Part.{Part}
-use Rattle.trace.specs.declared.faults.Fault.{Fault}
-use Rattle.trace.specs.declared.faults.Fault.TheVariants.{NoThread}
-use Rattle.dag.proofs.Lists.{all-front}
-use Rattle.dag.specs.Traces.{placed}
-use Rattle.dag.specs.Parts.{records_of}
-use Rattle.trace.specs.Devices.{Device, Change, ◌⇝◌}
-use Rattle.trace.specs.Endings.{EndsReading, IsWantOfMemory, IsWantOfMemoryOrThread}
-use Rattle.trace.proofs.Endings.{refused_for_want}
-use Rattle.lane.specs.Items.{IsBeginning}
-use Rattle.lane.specs.declared.taker.Taker.{Taker}
-use Rattle.lane.specs.Lanes.{LaneId, lane_capacity}
-use Rattle.route.specs.Routers.{RouterState}
-use Rattle.route.specs.Routers.{lane_count, HasSent, IsOnLanes}
-use Rattle.shard.specs.declared.worker_loop.Worked.{Worked}
-use Rattle.detect.specs.declared.workers.Job.{Job}
-use Rattle.detect.specs.declared.workers.WorkOf.{WorkOf}
+use Rattle.detect.proofs.Common.{◌≡◌, ℕ, ◌<◌, List, [], ◌∷◌, length, map, vec_len, None, Result, Ok, Err, OnOk, inl, inr, refl, suc, sym, ap, subst, ◌∙◌, arith, All, AllByRecursion, length-map, All-from_recursion, map-map, PromisedHandle, Placed, Part, Fault, NoThread, all-front, placed, records_of, Device, Change, ◌⇝◌, EndsReading, IsWantOfMemory, IsWantOfMemoryOrThread, refused_for_want, IsBeginning, Taker, LaneId, lane_capacity, RouterState, lane_count, HasSent, IsOnLanes, Worked, Job, WorkOf, Done, HasRoom, HasBackMark, IsFurther, to_shards, job_lanes, handle_lanes, AllDid, AreJobsFrom, IsReady, taker_lanes, IsFinished, IsClosed, IsDone, Gathering, ReadingThread, GoesOn}
 use Rattle.detect.specs.declared.made.Made.{Made}
-use Rattle.detect.specs.declared.closing.Done.{Done}
 use Rattle.detect.specs.declared.made.Lists.{Lists}
-use Rattle.detect.specs.Rooms.{HasRoom}
-use Rattle.detect.specs.LanesBack.{HasBackMark, IsFurther}
-use Rattle.detect.specs.Workers.{to_shards, job_lanes, handle_lanes, AllDid}
-use Rattle.detect.specs.Readiness.{AreJobsFrom, IsReady}
-use Rattle.detect.specs.Closing.{taker_lanes}
-use Rattle.detect.specs.Finished.{IsFinished, IsClosed, IsDone}
-use Rattle.detect.specs.declared.gathering.Gathering.{Gathering}
-use Rattle.detect.specs.declared.reading_thread.ReadingThread.{ReadingThread}
-use Rattle.detect.specs.Sent.{GoesOn}
 use Rattle.detect.proofs.Receipts.{front_same, front_map}
 use Rattle.detect.proofs.Endings.{ends_with}
 use Rattle.detect.proofs.Sendings.{on_lanes_trans}

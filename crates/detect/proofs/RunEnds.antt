@@ -1,21 +1,8 @@
 -- The end of a run: what the workers took are the shares, and what they gave back are the races found in them.
-use Rattle.std.proofs.Common.{◌≡◌, ℕ, zero, suc, ◌<◌, true, false, List, [], ◌∷◌, ◌++◌, length, map, get_or, refl, sym, ap, ap₂, subst, ◌∙◌, arith}
-use Rattle.dag.specs.declared.records.Placed.{Placed}
-use Rattle.dag.specs.Shares.{share}
-use Rattle.shadow.specs.Found.{found}
-use Rattle.lane.specs.declared.item.Item.{Item}
-use Rattle.lane.specs.declared.item.Item.TheVariants.{One, Finish}
-use Rattle.lane.specs.Items.{has_mark, records}
-use Rattle.lane.specs.Lanes.{LaneId}
-use Rattle.dag.specs.declared.back.Back.{Back}
-use Rattle.shard.specs.declared.worker_loop.Worked.{Worked}
+use Rattle.detect.proofs.Common.{◌≡◌, ℕ, zero, suc, ◌<◌, true, false, List, [], ◌∷◌, ◌++◌, length, map, get_or, refl, sym, ap, ap₂, subst, ◌∙◌, arith, Placed, share, found, Item, One, Finish, has_mark, records, LaneId, Back, Worked, AreInOrder, PutsFound, all_given, AllDid, taken_by, given_back, counts_of, taker_lanes, given_lanes, IsSettled}
 use Rattle.dag.specs.Backs.{races_of, fails}
-use Rattle.shard.specs.Working.{AreInOrder, PutsFound}
 use Rattle.shard.proofs.Answered.{answered}
 use Rattle.shard.proofs.Works.{puts_in_order}
-use Rattle.detect.specs.Gathered.{all_given}
-use Rattle.detect.specs.Workers.{AllDid}
-use Rattle.detect.specs.Closing.{taken_by, given_back, counts_of, taker_lanes, given_lanes, IsSettled}
 use Rattle.detect.proofs.Gathered.{on_lane, fails_on}
 
 -- ---- what the workers have done, shard by shard

@@ -1,27 +1,8 @@
 -- What a run has found, from what was compared at its end.
-use Rattle.std.proofs.Common.{◌≡◌, ℕ, ◌<◌, ◌≤◌, true, false, List, [], ◌∷◌, length, map, get_or, sym, ap, subst, ◌∙◌, append-nil, arith}
-use Rattle.dag.specs.declared.records.Placed.{Placed}
-use Rattle.dag.specs.Shares.{share}
+use Rattle.detect.proofs.Common.{◌≡◌, ℕ, ◌<◌, ◌≤◌, true, false, List, [], ◌∷◌, length, map, get_or, sym, ap, subst, ◌∙◌, append-nil, arith, Placed, share, length-map, by_location, found, Item, Taker, has_mark, with_mark, RouterState, lane_count, Back, RiseFrom, KeepsBest, IsCollected, Done, Run, given_by, taken_by, given_back, counts_of, IsEmptied, IsFinished, IsCompared, TookSharesOf, RunFinds}
 use Rattle.dag.proofs.Once.{AllAbove, Rises, increasing-from_rises}
-use Rattle.std.proofs.lemmas.List.{length-map}
-use Rattle.shadow.specs.Found.{by_location, found}
-use Rattle.lane.specs.declared.item.Item.{Item}
-use Rattle.lane.specs.declared.taker.Taker.{Taker}
-use Rattle.lane.specs.Items.{has_mark, with_mark}
-use Rattle.route.specs.Routers.{RouterState}
 use Rattle.route.specs.Routed.{IsRising, in_hand}
-use Rattle.route.specs.Routers.{lane_count}
 use Rattle.route.specs.RouterRuns.{IsTakenFrom, OfRuns, TakeWholeShares, OfRouters, AreTakesOfRun}
-use Rattle.dag.specs.declared.back.Back.{Back}
-use Rattle.shard.specs.Working.{RiseFrom}
-use Rattle.collect.specs.Collected.{KeepsBest, IsCollected}
-use Rattle.detect.specs.declared.closing.Done.{Done}
-use Rattle.detect.specs.declared.sharded.Run.{Run}
-use Rattle.detect.specs.Gathered.{given_by}
-use Rattle.detect.specs.Closing.{taken_by, given_back, counts_of, IsEmptied}
-use Rattle.detect.specs.Finished.{IsFinished, IsCompared}
-use Rattle.detect.specs.RunReports.{TookSharesOf}
-use Rattle.detect.specs.RunFinds.{RunFinds}
 use Rattle.detect.proofs.RunEnds.{IsEnd, OrderlyShares, did_at, marked_work, counted_share, given_share}
 use Rattle.detect.proofs.Verdicts.{verdict_of_shares}
 

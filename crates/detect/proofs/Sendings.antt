@@ -1,20 +1,6 @@
 -- ReadingThread one record, step by step.
-use Rattle.std.proofs.Common.{arith, ◌≡◌, ◌+◌, ◌-◌, ◌<◌, ℕ, length, length-append, List, [], ◌∷◌, ◌++◌, Option, Some, None, refl, sym, subst, ◌∙◌}
-use Rattle.trace.specs.Feeding.{Feeding, HasFed}
-use Rattle.dag.specs.declared.records.Placed.{Placed}
-use Rattle.dag.specs.declared.records.Record.{Record}
-use Rattle.dag.specs.Traces.{placed}
-use Rattle.verdict.proofs.Reports.{placed-next}
-use Rattle.dag.specs.declared.part.Part.{Part}
-use Rattle.dag.specs.Parts.{records_of}
-use Rattle.route.specs.Routers.{RouterState}
-use Rattle.route.specs.Sending.{sent_whole}
+use Rattle.detect.proofs.Common.{arith, ◌≡◌, ◌+◌, ◌-◌, ◌<◌, ℕ, length, length-append, List, [], ◌∷◌, ◌++◌, Option, Some, None, refl, sym, subst, ◌∙◌, Feeding, HasFed, Placed, Record, placed, placed-next, Part, records_of, RouterState, HasSent, IsOnLanes, sent_whole, Gathering, IsFurther, ReadingThread, GoesOn}
 use Rattle.route.specs.Steps.{HasPutNext}
-use Rattle.route.specs.Routers.{HasSent, IsOnLanes}
-use Rattle.detect.specs.declared.gathering.Gathering.{Gathering}
-use Rattle.detect.specs.LanesBack.{IsFurther}
-use Rattle.detect.specs.declared.reading_thread.ReadingThread.{ReadingThread}
-use Rattle.detect.specs.Sent.{GoesOn}
 use Rattle.detect.proofs.LanesBack.{further_refl, further_trans}
 
 pub on_lanes_refl : (r : RouterState) → IsOnLanes r r

@@ -1,23 +1,8 @@
 -- The ends of one shard's lanes more.
-use Rattle.std.proofs.Common.{◌≡◌, ℕ, suc, ◌+◌, List, [], ◌∷◌, ◌++◌, length, length-append, map, refl, sym, ap, ap₂, subst, ◌∙◌, arith}
-use Rattle.std.specs.List.{All, AllByRecursion}
-use Rattle.std.proofs.lemmas.List.{map-append}
-use Rattle.std.proofs.lemmas.List.Elements.{All-push, All-nil}
-use Rattle.dag.specs.declared.records.Placed.{Placed}
-use Rattle.dag.proofs.Lists.{all-push}
+use Rattle.detect.proofs.Common.{◌≡◌, ℕ, suc, ◌+◌, List, [], ◌∷◌, ◌++◌, length, length-append, map, refl, sym, ap, ap₂, subst, ◌∙◌, arith, All, AllByRecursion, map-append, Placed, all-push, Taker, put_of, Item, records, Back, Collection, KeepsBest, given_by, all_given, Gathers, Job, IsFreshJob, AllFresh, to_shards, from_shards, AreJobsFrom, IsBetween, IsJobOf, IsTied, All-push, All-nil}
 use Rattle.lane.specs.declared.sender.Sender.{Sender}
-use Rattle.lane.specs.declared.taker.Taker.{Taker}
-use Rattle.lane.specs.Lanes.{put_of}
-use Rattle.lane.specs.declared.item.Item.{Item}
-use Rattle.lane.specs.Items.{records}
-use Rattle.dag.specs.declared.back.Back.{Back}
 use Rattle.dag.specs.Backs.{fails}
-use Rattle.collect.specs.Collected.{Collection, KeepsBest}
-use Rattle.detect.specs.Gathered.{given_by, all_given, Gathers}
-use Rattle.detect.specs.declared.workers.Job.{Job}
 use Rattle.detect.specs.declared.made.LaneEnds.{LaneEnds}
-use Rattle.detect.specs.Workers.{IsFreshJob, AllFresh, to_shards, from_shards}
-use Rattle.detect.specs.Readiness.{AreJobsFrom, IsBetween, IsJobOf, IsTied}
 
 -- what f says of the one list, g says of the other, and of one element more too
 same_more : {X Y Z : Type 0} (f : X → Z) (g : Y → Z) (xs xs' : List X) (x : X) (ys ys' : List Y) (y : Y) → xs' ≡ xs ++ x ∷ [] → ys' ≡ ys ++ y ∷ [] → f x ≡ g y → map f xs ≡ map g ys → map f xs' ≡ map g ys'

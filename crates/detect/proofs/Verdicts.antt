@@ -1,20 +1,10 @@
 -- Where each shard handed back the races found in its share, the report is the verdict on the trace.
-use Rattle.std.proofs.Common.{◌≡◌, ℕ, suc, ◌+◌, ◌%◌, ◌<◌, false, eqb, fold, filter, List, [], ◌∷◌, length, Option, None, ⊎_elim, refl, sym, ap, subst, ◌∙◌, arith}
-use Rattle.std.specs.List.{AllByRecursion}
-use Rattle.std.proofs.lemmas.Bool.{cases_Bool, cond-true, cond-false, eqb-true}
+use Rattle.detect.proofs.Common.{◌≡◌, ℕ, suc, ◌+◌, ◌%◌, ◌<◌, false, eqb, fold, filter, List, [], ◌∷◌, length, Option, None, ⊎_elim, refl, sym, ap, subst, ◌∙◌, arith, eqb-true, AllByRecursion, cases_Bool, cond-true, cond-false, Back, Item, Placed, RaceAt, share, state_at_start, found, put_in, by_location, Collection, KeepsBest, IsCollected, races_of, kept_after, best, all_given, AreAtHomeFrom, AreAtHome, Gathers}
 use Rattle.std.proofs.lemmas.Bool.Decides.{nat_tests}
 use Rattle.std.proofs.Math.Nat.{mod-lt}
-use Rattle.dag.specs.declared.back.Back.{Back}
-use Rattle.lane.specs.declared.item.Item.{Item}
-use Rattle.dag.specs.declared.records.Placed.{Placed}
-use Rattle.dag.specs.Accesses.{RaceAt}
-use Rattle.dag.specs.Shares.{share}
-use Rattle.shadow.specs.Found.{state_at_start, found, put_in, by_location}
 use Rattle.shadow.proofs.FoundLaws.{found_from-apart}
 use Rattle.shadow.proofs.Sharing.{of_shard, found-share}
-use Rattle.collect.specs.Collected.{Collection, KeepsBest, IsCollected, races_of, kept_after, best}
 use Rattle.collect.proofs.Sorted.{collected_is_sorted}
-use Rattle.detect.specs.Gathered.{all_given, AreAtHomeFrom, AreAtHome, Gathers}
 use Rattle.detect.proofs.Gathered.{on_lane, best_of_lane, other_location}
 
 home-filter : (n k : ℕ) (rs : List RaceAt) → AllByRecursion (λ r. r.location % n ≡ k) (filter (of_shard k n) rs)

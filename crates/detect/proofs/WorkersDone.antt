@@ -1,17 +1,6 @@
 -- The workers that have done their work: one more, and what they say lane by lane.
-use Rattle.std.proofs.Common.{◌≡◌, ℕ, List, [], ◌∷◌, ◌++◌, map, refl, sym, ap, ap₂, subst, ◌∙◌, append_assoc}
-use Rattle.std.proofs.lemmas.List.{map-append, append-nil}
-use Rattle.std.specs.declared.thread.PromisedHandle.{PromisedHandle}
-use Rattle.dag.specs.declared.records.Placed.{Placed}
-use Rattle.lane.specs.declared.taker.Taker.{Taker}
-use Rattle.lane.specs.Items.{IsBeginning}
-use Rattle.lane.specs.Lanes.{LaneId}
-use Rattle.shard.specs.declared.worker_loop.Worked.{Worked}
+use Rattle.detect.proofs.Common.{◌≡◌, ℕ, List, [], ◌∷◌, ◌++◌, map, refl, sym, ap, ap₂, subst, ◌∙◌, append_assoc, append-nil, map-append, Placed, Taker, IsBeginning, LaneId, Worked, Job, job_lanes, handle_lanes, DidOn, AllDid, takers_of, counts_of, PromisedHandle, WorkOf}
 use Rattle.shard.specs.Worked.{DidWork}
-use Rattle.detect.specs.declared.workers.Job.{Job}
-use Rattle.detect.specs.declared.workers.WorkOf.{WorkOf}
-use Rattle.detect.specs.Workers.{job_lanes, handle_lanes, DidOn, AllDid}
-use Rattle.detect.specs.Closing.{takers_of, counts_of}
 
 -- one element more of a list that is gone through
 pub split_more : {X : Type 0} (done : List X) (x : X) (rest before all : List X) → before ≡ x ∷ rest → done ++ before ≡ all → (done ++ x ∷ []) ++ rest ≡ all

@@ -1,14 +1,6 @@
 -- What was taken of a lane is a beginning of its share, and with the mark that share whole.
-use Rattle.std.proofs.Common.{◌≡◌, ℕ, ◌<◌, inl, inr, Bool, true, List, [], ◌∷◌, ◌++◌, map, filter, refl, sym, ap, subst, ◌∙◌, append-nil, append_assoc}
-use Rattle.std.proofs.lemmas.Bool.{cond_both}
-use Rattle.lane.specs.declared.item.Item.{Item}
-use Rattle.lane.specs.declared.item.Item.TheVariants.{One, Finish}
-use Rattle.lane.specs.Items.{has_mark, mark_last, records, IsBeginning}
-use Rattle.lane.proofs.Marks.{records_append, all_taken, mark_last_more, no_mark_in}
-use Rattle.dag.specs.declared.records.Placed.{Placed}
-use Rattle.dag.specs.Shares.{goes_placed, share}
+use Rattle.route.proofs.Common.{◌≡◌, ℕ, ◌<◌, inl, inr, Bool, true, List, [], ◌∷◌, ◌++◌, map, filter, refl, sym, ap, subst, ◌∙◌, append-nil, append_assoc, cond_both, Item, One, Finish, has_mark, mark_last, records, IsBeginning, records_append, all_taken, mark_last_more, no_mark_in, Placed, goes_placed, share, IsRising, HasShare, TakesShare}
 use Rattle.dag.proofs.Once.{AllAbove, Rises, Rises-from, increasing-from_rises}
-use Rattle.route.specs.Routed.{IsRising, HasShare, TakesShare}
 use Rattle.route.proofs.Rising.{rising_front}
 use Rattle.route.proofs.LaneShares.{Routes}
 

@@ -1,19 +1,5 @@
 -- What was routed, from what stands on the lanes.
-use Rattle.std.proofs.Common.{◌≡◌, ℕ, zero, suc, ◌<◌, ◌≤◌, ◌%◌, ◌==◌, ◌⊎◌, inl, inr, ⊎_elim, Bool, true, false, true≢false, cond, ◌&&◌, nat_lt, List, [], ◌∷◌, ◌++◌, map, filter, Contains, Option, Some, None, option_to_list, refl, sym, ap, ap₂, subst, ◌∙◌, append_assoc, append-nil, arith}
-use Rattle.std.proofs.lemmas.Bool.{lt-ltb, le-ltb, cond-true, cond-false, and_left, and_from, cases_lt}
-use Rattle.std.proofs.lemmas.Bool.Decides.{nat_tests}
-use Rattle.std.proofs.lemmas.List.Elements.{All-filter, All-contains, All-contains_itself, Contains-append_left, Contains-append_cases, Contains-push}
-use Rattle.lane.specs.declared.item.Item.{Item}
-use Rattle.lane.specs.declared.item.Item.TheVariants.{One, Finish}
-use Rattle.lane.specs.Items.{has_mark, records, IsBeginning}
-use Rattle.dag.specs.declared.records.Record.{Record}
-use Rattle.dag.specs.declared.records.Record.TheVariants.{Spawn, Call, Return, Sync, Read, Write}
-use Rattle.dag.specs.declared.records.Placed.{Placed}
-use Rattle.dag.specs.Shares.{goes, goes_placed, share}
-use Rattle.dag.proofs.Lists.{Contains-nil}
-use Rattle.dag.proofs.ShareLemmas.{share-push, goes_somewhere}
-use Rattle.route.specs.Sending.{portion, AllSent}
-use Rattle.route.specs.Routed.{IsRising, in_hand, IsOnSome, IsRouted, IsBeingSent, HasShare, HasWholeShare, HasRouted}
+use Rattle.route.proofs.Common.{◌≡◌, ℕ, zero, suc, ◌<◌, ◌≤◌, ◌%◌, ◌==◌, ◌⊎◌, inl, inr, ⊎_elim, Bool, true, false, true≢false, cond, ◌&&◌, nat_lt, List, [], ◌∷◌, ◌++◌, map, filter, Contains, Option, Some, None, option_to_list, refl, sym, ap, ap₂, subst, ◌∙◌, append_assoc, append-nil, arith, lt-ltb, le-ltb, cond-true, cond-false, and_left, and_from, cases_lt, nat_tests, All-filter, All-contains, All-contains_itself, Contains-append_left, Contains-append_cases, Contains-push, Item, One, Finish, has_mark, records, IsBeginning, Record, Spawn, Call, Return, Sync, Read, Write, Placed, goes, goes_placed, share, Contains-nil, share-push, goes_somewhere, portion, AllSent, IsRising, in_hand, IsOnSome, IsRouted, IsBeingSent, HasShare, HasWholeShare, HasRouted}
 use Rattle.route.proofs.Rising.{Contains-here, Contains-later, Contains-cases, Ordered-from_rising, rising_front, last_above, same_records}
 
 -- the records and the mark of a lane

@@ -1,17 +1,9 @@
 -- Lists of senders after one of them has put an item.
-use Rattle.std.proofs.Common.{◌≡◌, ℕ, ◌+◌, ◌<◌, ◌⊎◌, ⊎_elim, subst, arith, slice_index_or, Bool, true, false, List, [], ◌∷◌, ◌++◌, length, get_or, set, map, sym, refl, ap, ◌∙◌, ◌≤◌, Result, Ok, Err, OnOk, IfErr, is_ok, is_err, IsTrue, IsFalse, vec_len}
+use Rattle.route.proofs.Common.{◌≡◌, ℕ, ◌+◌, ◌<◌, ◌⊎◌, ⊎_elim, subst, arith, slice_index_or, Bool, true, false, List, [], ◌∷◌, ◌++◌, length, get_or, set, map, sym, refl, ap, ◌∙◌, ◌≤◌, Result, Ok, Err, OnOk, IfErr, is_ok, is_err, IsTrue, IsFalse, vec_len, cases_order, map-set, get_or-map, get_or-set_same, get_or-set_other, length-map, Item, One, Finish, SameSender, put_of, one_more, WasFull, CountsRefusal, Placed, lanes, puts, shown, capacities, rooms, refusals, with_refusal, put_on, with_put}
 use Rattle.std.specs.Prelude.{Vec}
 use Rattle.std.specs.declared.alloc.Global.{Global}
-use Rattle.std.proofs.lemmas.Bool.{cases_order}
-use Rattle.std.proofs.lemmas.List.{map-set, get_or-map, get_or-set_same, get_or-set_other, length-map}
 use Rattle.std.proofs.Math.Seq.{map-set_same}
-use Rattle.lane.specs.declared.item.Item.{Item}
-use Rattle.lane.specs.declared.item.Item.TheVariants.{One, Finish}
 use Rattle.lane.specs.declared.sender.Sender.{Sender}
-use Rattle.lane.specs.Lanes.{SameSender, put_of, one_more, WasFull, CountsRefusal}
-use Rattle.dag.specs.declared.records.Placed.{Placed}
-use Rattle.route.specs.Senders.{lanes, puts, shown, capacities, rooms, refusals, with_refusal}
-use Rattle.route.specs.Sending.{put_on, with_put}
 
 -- a put list for each
 pub puts_counted : (ss : Vec (Sender Placed) Global) → length (puts ss.items) ≡ vec_len ss

@@ -1,14 +1,5 @@
 -- Nothing is sent to a lane after its mark.
-use Rattle.std.proofs.Common.{◌≡◌, ℕ, ◌<◌, ◌==◌, ⊎_elim, Bool, true, false, cond, nat_lt, List, [], ◌∷◌, ◌++◌, length, get_or, take, drop, map, refl, sym, ap, ◌∙◌, arith}
-use Rattle.std.specs.List.{range_with_len, flat_map}
-use Rattle.std.proofs.lemmas.Bool.{le-ltb, cond-false}
-use Rattle.std.proofs.lemmas.List.{length-append, get_or_at, take-append-drop}
-use Rattle.std.proofs.lemmas.List.FromFn.{length-map-range_with_len, get_or-map-range_with_len}
-use Rattle.lane.specs.declared.item.Item.{Item}
-use Rattle.lane.specs.declared.item.Item.TheVariants.{One, Finish}
-use Rattle.lane.specs.Items.{has_mark}
-use Rattle.dag.specs.declared.records.Placed.{Placed}
-use Rattle.route.specs.Runs.{of_lane, lanes_for, sending_of}
+use Rattle.route.proofs.Common.{◌≡◌, ℕ, ◌<◌, ◌==◌, ⊎_elim, Bool, true, false, cond, nat_lt, List, [], ◌∷◌, ◌++◌, length, get_or, take, drop, map, refl, sym, ap, ◌∙◌, arith, range_with_len, flat_map, le-ltb, cond-false, length-append, get_or_at, take-append-drop, length-map-range_with_len, get_or-map-range_with_len, Item, One, Finish, has_mark, Placed, of_lane, lanes_for, sending_of}
 use Rattle.route.proofs.RunFronts.{Sends, of_lane-append, split_front, cut_front, on_cut}
 
 either_one : (b : Bool) (p : Placed) (l : List (Item Placed)) → has_mark l ≡ false → has_mark (cond b (One p ∷ l) l) ≡ false

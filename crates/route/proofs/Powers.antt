@@ -1,7 +1,5 @@
 -- Powers of two, and the number below each.
-use Rattle.std.proofs.Common.{◌≡◌, ℕ, suc, ◌<◌, ◌+◌, ◌-◌, ◌*◌, ◌%◌, ◌^◌, ap₂, subst, ◌∙◌, inl, inr, arith}
-use Rattle.std.proofs.Math.Nat.{two-pow-succ}
-use Rattle.std.proofs.lemmas.Bool.{cases_lt}
+use Rattle.route.proofs.Common.{◌≡◌, ℕ, suc, ◌<◌, ◌+◌, ◌-◌, ◌*◌, ◌%◌, ◌^◌, ap₂, subst, ◌∙◌, inl, inr, arith, two-pow-succ, cases_lt}
 use Rattle.std.proofs.lemmas.Nat.{and_mask, and_block, leading_top, pow_pos}
 use lib.Bits.{bit_and}
 

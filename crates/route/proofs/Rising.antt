@@ -1,13 +1,7 @@
 -- Lists of records whose places rise.
-use Rattle.std.proofs.Common.{◌≡◌, ℕ, zero, suc, ◌+◌, ◌<◌, ◌⊎◌, inl, inr, ⊎_elim, List, [], ◌∷◌, ◌++◌, get_or, map, Contains, refl, sym, ap, ap₂, subst, ◌∙◌, arith}
-use Rattle.std.specs.List.{AllPairs}
+use Rattle.route.proofs.Common.{◌≡◌, ℕ, zero, suc, ◌+◌, ◌<◌, ◌⊎◌, inl, inr, ⊎_elim, List, [], ◌∷◌, ◌++◌, get_or, map, Contains, refl, sym, ap, ap₂, subst, ◌∙◌, arith, AllPairs, get_or-map, get_or_append_left, map-append, length-append, length-map, Contains-push, Placed, Contains-nil, IsRising}
 use Rattle.std.specs.List.Sorted.{IsStrictlyIncreasing}
-use Rattle.std.proofs.lemmas.List.{get_or-map, get_or_append_left, map-append, length-append, length-map}
-use Rattle.std.proofs.lemmas.List.Elements.{Contains-push}
 use Rattle.std.proofs.lemmas.List.Kept.{AllPairs-from_increasing}
-use Rattle.dag.specs.declared.records.Placed.{Placed}
-use Rattle.dag.proofs.Lists.{Contains-nil}
-use Rattle.route.specs.Routed.{IsRising}
 
 pub Contains-here : {A : Type 0} (p : A) (u : List A) → Contains (p ∷ u) p
 Contains-here p u = (0, omega arith, refl)

@@ -1,17 +1,5 @@
 -- The run of a router: where it stands, what stands on the lanes, and what was taken.
-use Rattle.std.proofs.Common.{◌≡◌, ℕ, ◌<◌, ⊎_elim, true, List, [], ◌∷◌, ◌++◌, map, Option, Some, None, refl, sym, ap, ◌∙◌, append-nil, arith}
-use Rattle.std.proofs.lemmas.Bool.{ltb-true}
-use Rattle.lane.specs.declared.item.Item.{Item}
-use Rattle.lane.specs.declared.item.Item.TheVariants.{One, Finish}
-use Rattle.lane.specs.Items.{has_mark, IsBeginning}
-use Rattle.dag.specs.declared.records.Placed.{Placed}
-use Rattle.dag.specs.Shares.{share}
-use Rattle.route.specs.Routers.{RouterState}
-use Rattle.route.specs.Sending.{put_on}
-use Rattle.route.specs.Routed.{IsRising, in_hand}
-use Rattle.route.specs.Routers.{lane_count, HasSent, IsUnchanged}
-use Rattle.route.specs.Runs.{Event, IsRun, of_lane, put_list}
-use Rattle.route.specs.RouterRuns.{sent_so_far, run_of}
+use Rattle.route.proofs.Common.{◌≡◌, ℕ, ◌<◌, ⊎_elim, true, List, [], ◌∷◌, ◌++◌, map, Option, Some, None, refl, sym, ap, ◌∙◌, append-nil, arith, ltb-true, Item, One, Finish, has_mark, IsBeginning, Placed, share, RouterState, put_on, IsRising, in_hand, lane_count, HasSent, IsUnchanged, Event, IsRun, of_lane, put_list, sent_so_far, run_of}
 use Rattle.route.proofs.Headline.{mark_of_front, takes_share}
 use Rattle.route.proofs.LaneShares.{has_mark-sent}
 use Rattle.route.proofs.RunLists.{puts_in-events, front_of, outcome_of, front_run}

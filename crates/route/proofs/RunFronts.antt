@@ -1,19 +1,5 @@
 -- Each point of a run stands between two records, or inside one, or among the marks.
-use Rattle.std.proofs.Common.{◌≡◌, ℕ, zero, suc, ◌+◌, ◌<◌, ◌≤◌, ◌%◌, ◌==◌, ◌⊎◌, inl, inr, ⊎_elim, Bool, true, false, cond, ◌&&◌, nat_lt, nat_le, List, [], ◌∷◌, ◌++◌, length, take, map, Option, Some, None, refl, sym, ap, ap₂, subst, ◌∙◌, append_assoc, append-nil, arith}
-use Rattle.std.specs.List.{range_with_len, flat_map}
-use Rattle.std.proofs.lemmas.Bool.{lt-ltb, le-ltb, cond-true, cond-false, eq-eqb}
-use Rattle.std.proofs.lemmas.Bool.Decides.{nat_tests}
-use Rattle.std.proofs.lemmas.List.{nil_from_length, take_at, length-append}
-use Rattle.std.proofs.lemmas.List.FromFn.{take-map-range_with_len, length-map-range_with_len}
-use Rattle.lane.specs.declared.item.Item.{Item}
-use Rattle.lane.specs.declared.item.Item.TheVariants.{One, Finish}
-use Rattle.dag.specs.declared.records.Record.{Record}
-use Rattle.dag.specs.declared.records.Record.TheVariants.{Spawn, Call, Return, Sync, Read, Write}
-use Rattle.dag.specs.declared.records.Placed.{Placed}
-use Rattle.dag.specs.Shares.{goes, goes_placed, share}
-use Rattle.route.specs.Sending.{portion, mark_of, AllSent}
-use Rattle.route.specs.Routed.{in_hand}
-use Rattle.route.specs.Runs.{of_lane, sending_of, sending}
+use Rattle.route.proofs.Common.{◌≡◌, ℕ, zero, suc, ◌+◌, ◌<◌, ◌≤◌, ◌%◌, ◌==◌, ◌⊎◌, inl, inr, ⊎_elim, Bool, true, false, cond, ◌&&◌, nat_lt, nat_le, List, [], ◌∷◌, ◌++◌, length, take, map, Option, Some, None, refl, sym, ap, ap₂, subst, ◌∙◌, append_assoc, append-nil, arith, range_with_len, flat_map, lt-ltb, le-ltb, cond-true, cond-false, eq-eqb, nat_tests, nil_from_length, take_at, length-append, take-map-range_with_len, length-map-range_with_len, Item, One, Finish, Record, Spawn, Call, Return, Sync, Read, Write, Placed, goes, goes_placed, share, portion, mark_of, AllSent, in_hand, of_lane, sending_of, sending}
 
 abbrev pub Sends : Type 0
 Sends = List (ℕ × Item Placed)

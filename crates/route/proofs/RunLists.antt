@@ -1,15 +1,7 @@
 -- Along a run: what was taken from a lane and what it holds is what was put on it.
-use Rattle.std.proofs.Common.{◌≡◌, ℕ, ◌==◌, Bool, true, false, cond, List, [], ◌∷◌, ◌++◌, length, map, drop, ◌<◌, arith, refl, sym, ap, ap₂, subst, ◌∙◌, append_assoc, append-nil}
-use Rattle.std.specs.List.{range_with_len, flat_map}
+use Rattle.route.proofs.Common.{◌≡◌, ℕ, ◌==◌, Bool, true, false, cond, List, [], ◌∷◌, ◌++◌, length, map, drop, ◌<◌, arith, refl, sym, ap, ap₂, subst, ◌∙◌, append_assoc, append-nil, range_with_len, flat_map, eqb-true, length-append, map-append, Item, Finish, has_mark, IsBeginning, Placed, IsRising, Event, put, puts_in, takes_in, of_lane, put_list, taken_list, items_after, items_on, IsAllowed, IsRun, put_event, sending_of, sending}
 use Rattle.std.proofs.lemmas.List.Sums.{fold-append}
-use Rattle.std.proofs.lemmas.Bool.{eqb-true}
-use Rattle.std.proofs.lemmas.List.{length-append, map-append}
-use Rattle.lane.specs.declared.item.Item.{Item}
-use Rattle.lane.specs.declared.item.Item.TheVariants.{Finish}
-use Rattle.lane.specs.Items.{has_mark, IsBeginning}
-use Rattle.dag.specs.declared.records.Placed.{Placed}
-use Rattle.route.specs.Routed.{IsRising}
-use Rattle.route.specs.Runs.{Event, put, take, puts_in, takes_in, of_lane, put_list, taken_list, items_after, items_on, IsAllowed, IsRun, put_event, sending_of, sending}
+use Rattle.route.specs.Runs.{take}
 use Rattle.route.proofs.LaneShares.{Outcome, outcome}
 use Rattle.route.proofs.Rising.{rising_front}
 use Rattle.route.proofs.RunFronts.{Sends, of_lane-append, Front, front}

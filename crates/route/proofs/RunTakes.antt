@@ -1,15 +1,6 @@
 -- A run goes on by takes: of each lane what its taker took.
-use Rattle.std.proofs.Common.{◌≡◌, ℕ, zero, suc, ◌<◌, ◌≤◌, ◌==◌, ◌⊎◌, inl, inr, ⊎_elim, Bool, true, false, cond, nat_lt, ◌≢◌, List, [], ◌∷◌, ◌++◌, length, map, refl, sym, ap, ap₂, subst, ◌∙◌, append_assoc, append-nil, arith}
-use Rattle.std.proofs.lemmas.Bool.{eq-eqb, lt-ltb, le-ltb, cond-true, cond-false}
-use Rattle.std.proofs.lemmas.Bool.Decides.{nat_tests, eqb_tells}
-use Rattle.std.proofs.lemmas.List.{length-append, append_cancel_left}
-use Rattle.lane.specs.declared.item.Item.{Item}
-use Rattle.lane.specs.Items.{IsBeginning}
-use Rattle.dag.specs.declared.records.Placed.{Placed}
-use Rattle.route.specs.Routed.{in_hand}
-use Rattle.route.specs.Routers.{lane_count}
-use Rattle.route.specs.RouterRuns.{sent_so_far, run_of, OfRouters, AreTakesOfRun}
-use Rattle.route.specs.Runs.{Event, take, puts_in, takes_in, of_lane, put_list, taken_list, items_on, IsAllowed, IsRun}
+use Rattle.route.proofs.Common.{◌≡◌, ℕ, zero, suc, ◌<◌, ◌≤◌, ◌==◌, ◌⊎◌, inl, inr, ⊎_elim, Bool, true, false, cond, nat_lt, ◌≢◌, List, [], ◌∷◌, ◌++◌, length, map, refl, sym, ap, ap₂, subst, ◌∙◌, append_assoc, append-nil, arith, eq-eqb, lt-ltb, le-ltb, cond-true, cond-false, nat_tests, eqb_tells, length-append, append_cancel_left, Item, IsBeginning, Placed, in_hand, lane_count, sent_so_far, run_of, OfRouters, AreTakesOfRun, Event, puts_in, takes_in, of_lane, put_list, taken_list, items_on, IsAllowed, IsRun}
+use Rattle.route.specs.Runs.{take}
 use Rattle.route.proofs.RunFronts.{Sends, of_lane-append}
 use Rattle.route.proofs.RunLists.{puts_in-append, takes_in-append, takes_in-events, kept_along}
 use Rattle.route.proofs.RouterRuns.{router_run, router_puts}

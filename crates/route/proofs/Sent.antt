@@ -1,18 +1,5 @@
 -- What stands on the lanes after a put.
-use Rattle.std.proofs.Common.{◌≡◌, ℕ, ◌+◌, ◌%◌, ◌<◌, ◌≤◌, Bool, true, false, cond, ◌&&◌, nat_lt, List, [], ◌∷◌, ◌++◌, length, map, refl, sym, ap, subst, ◌∙◌, Option, Some, None, append-nil, ◌⊎◌, ⊎_elim, arith}
-use Rattle.std.proofs.lemmas.Bool.{cases_eq, cases_order, lt-ltb, le-ltb, eq-eqb, ne_eqb, cond-true, cond-false, and_left}
-use Rattle.std.proofs.Math.Nat.{mod-lt}
-use Rattle.std.proofs.lemmas.List.{length-set, get_or-set_same, get_or-set_other, map-append}
-use Rattle.lane.specs.declared.item.Item.{Item}
-use Rattle.lane.specs.declared.item.Item.TheVariants.{One, Finish}
-use Rattle.lane.specs.Items.{has_mark}
-use Rattle.lane.proofs.Marks.{has_mark_more}
-use Rattle.dag.specs.declared.records.Placed.{Placed}
-use Rattle.dag.specs.declared.records.Record.{Record}
-use Rattle.dag.specs.declared.records.Record.TheVariants.{Spawn, Call, Return, Sync, Read, Write}
-use Rattle.dag.specs.Shares.{goes, goes_placed, share}
-use Rattle.dag.proofs.ShareLemmas.{share-push}
-use Rattle.route.specs.Sending.{first_lane, put_on, with_put, portion, mark_of, AllSent, sent_whole, HaveMarks}
+use Rattle.route.proofs.Common.{◌≡◌, ℕ, ◌+◌, ◌%◌, ◌<◌, ◌≤◌, Bool, true, false, cond, ◌&&◌, nat_lt, List, [], ◌∷◌, ◌++◌, length, map, refl, sym, ap, subst, ◌∙◌, Option, Some, None, append-nil, ◌⊎◌, ⊎_elim, arith, cases_eq, cases_order, lt-ltb, le-ltb, eq-eqb, ne_eqb, cond-true, cond-false, and_left, mod-lt, length-set, get_or-set_same, get_or-set_other, map-append, Item, One, Finish, has_mark, has_mark_more, Placed, Record, Spawn, Call, Return, Sync, Read, Write, goes, goes_placed, share, share-push, first_lane, put_on, with_put, portion, mark_of, AllSent, sent_whole, HaveMarks}
 
 abbrev pub Items : Type 0
 Items = List (Item Placed)

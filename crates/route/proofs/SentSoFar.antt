@@ -1,21 +1,6 @@
 -- What a router has sent so far is a beginning of all that is sent, and a step sends one item more.
-use Rattle.std.proofs.Common.{◌≡◌, ℕ, zero, suc, ◌+◌, ◌<◌, ◌≤◌, ◌==◌, ◌⊎◌, inl, inr, ⊎_elim, Bool, true, false, true≢false, cond, ◌&&◌, nat_lt, List, [], ◌∷◌, ◌++◌, drop, map, filter, Option, Some, None, refl, sym, ap, ap₂, subst, ◌∙◌, append_assoc, append-nil, arith}
-use Rattle.std.specs.List.{range_with_len, flat_map}
-use Rattle.std.proofs.lemmas.Bool.{lt-ltb, le-ltb, cond-true, cond-false, eqb-true, cases_lt}
+use Rattle.route.proofs.Common.{◌≡◌, ℕ, zero, suc, ◌+◌, ◌<◌, ◌≤◌, ◌==◌, ◌⊎◌, inl, inr, ⊎_elim, Bool, true, false, true≢false, cond, ◌&&◌, nat_lt, List, [], ◌∷◌, ◌++◌, drop, map, filter, Option, Some, None, refl, sym, ap, ap₂, subst, ◌∙◌, append_assoc, append-nil, arith, range_with_len, flat_map, lt-ltb, le-ltb, cond-true, cond-false, eqb-true, cases_lt, map-append, take-append-drop, take-map-range_with_len, map-range_with_len_more, Item, One, Finish, IsBeginning, Record, Spawn, Call, Return, Sync, Read, Write, Placed, goes, goes_placed, share, first_lane, portion, mark_of, sent_whole, in_hand, Event, put, of_lane, lanes_for, sending_of, sending, put_event, begun, first_marks, sent_so_far}
 use Rattle.std.proofs.lemmas.Grind.{flat_map-append}
-use Rattle.std.proofs.lemmas.List.{map-append, take-append-drop}
-use Rattle.std.proofs.lemmas.List.FromFn.{take-map-range_with_len, map-range_with_len_more}
-use Rattle.lane.specs.declared.item.Item.{Item}
-use Rattle.lane.specs.declared.item.Item.TheVariants.{One, Finish}
-use Rattle.lane.specs.Items.{IsBeginning}
-use Rattle.dag.specs.declared.records.Record.{Record}
-use Rattle.dag.specs.declared.records.Record.TheVariants.{Spawn, Call, Return, Sync, Read, Write}
-use Rattle.dag.specs.declared.records.Placed.{Placed}
-use Rattle.dag.specs.Shares.{goes, goes_placed, share}
-use Rattle.route.specs.Sending.{first_lane, portion, mark_of, sent_whole}
-use Rattle.route.specs.Routed.{in_hand}
-use Rattle.route.specs.Runs.{Event, put, of_lane, lanes_for, sending_of, sending, put_event}
-use Rattle.route.specs.RouterRuns.{begun, first_marks, sent_so_far}
 use Rattle.route.proofs.RunFronts.{Sends, of_lane-append, of_sending, on_first}
 
 abbrev on_lane : Item Placed → ℕ → ℕ × Item Placed

@@ -1,16 +1,6 @@
 -- What a router's state is after a call, from what was put on its lanes.
-use Rattle.std.proofs.Common.{◌≡◌, ℕ, ◌+◌, ◌<◌, ◌≤◌, true, false, List, [], ◌∷◌, ◌++◌, length, map, sym, refl, ap, subst, ◌∙◌, Option, Some, None, arith}
+use Rattle.route.proofs.Common.{◌≡◌, ℕ, ◌+◌, ◌<◌, ◌≤◌, true, false, List, [], ◌∷◌, ◌++◌, length, map, sym, refl, ap, subst, ◌∙◌, Option, Some, None, arith, length-set, Item, One, Finish, Placed, goes_placed, put_on, with_put, sent_whole, HaveMarks, RouterState, IsRouter, lane_count, HasSent, IsOnLanes, IsUnchanged, IsStuck, WasRefused, put, put_event, sending_of, begun, run_of, IsIdle, HasGoneOn, HasPutNext, HasSentRecord, HasStuck, HasMarkedOn, HasMarkedNext}
 use Rattle.std.specs.Option.{ForSome}
-use Rattle.std.proofs.lemmas.List.{length-set}
-use Rattle.lane.specs.declared.item.Item.{Item}
-use Rattle.lane.specs.declared.item.Item.TheVariants.{One, Finish}
-use Rattle.dag.specs.declared.records.Placed.{Placed}
-use Rattle.dag.specs.Shares.{goes_placed}
-use Rattle.route.specs.Sending.{put_on, with_put, sent_whole, HaveMarks}
-use Rattle.route.specs.Routers.{RouterState, IsRouter, lane_count, HasSent, IsOnLanes, IsUnchanged, IsStuck, WasRefused}
-use Rattle.route.specs.Runs.{put, put_event, sending_of}
-use Rattle.route.specs.RouterRuns.{begun, run_of}
-use Rattle.route.specs.Steps.{IsIdle, HasGoneOn, HasPutNext, HasSentRecord, HasStuck, HasMarkedOn, HasMarkedNext}
 use Rattle.route.proofs.Sent.{Items, OnPuts, step-next, step-last, sent-mark, marks-one, marks-finish, unmarked_at}
 use Rattle.route.proofs.SentSoFar.{events_so_far, step_event-next, step_event-last, step_event-mark, all_events, begun_events, events-same}
 

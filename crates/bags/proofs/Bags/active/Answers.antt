@@ -1,5 +1,4 @@
-use Rattle.std.proofs.Common.{◌∙◌, ap, length}
-use Rattle.bags.specs.Procedures.{Procedures}
+use Rattle.bags.proofs.Common.{◌∙◌, ap, length, Procedures}
 use Rattle.bags.proofs.Cuts.{length-procedures_of}
 use Rattle.bags.proofs.Bags.active.Goals as goal
 

@@ -1,6 +1,4 @@
-use Rattle.std.proofs.Common.{◌∙◌, length, refl, ap, sym, arith}
-use Rattle.bags.specs.Held.{procedures_of}
-use Rattle.bags.specs.Procedures.{Procedures, current, in_p}
+use Rattle.bags.proofs.Common.{◌∙◌, length, refl, ap, sym, arith, procedures_of, Procedures, current, in_p}
 use Rattle.bags.proofs.Cuts.{Executing, executing, executes, executing_serial}
 use Rattle.bags.proofs.Bags.current.Goals as goal
 

@@ -1,8 +1,4 @@
-use Rattle.std.proofs.Common.{ap, ◌∙◌, ◌≡◌, ◌+◌, ℕ, List, arith}
-use Rattle.bags.specs.Nested.{Nested}
-use Rattle.bags.specs.Stretch.{Stretch}
-use Rattle.bags.specs.Held.{procedures_of}
-use Rattle.bags.specs.Procedures.{Procedures, entered}
+use Rattle.bags.proofs.Common.{ap, ◌∙◌, ◌≡◌, ◌+◌, ℕ, List, arith, Nested, Stretch, procedures_of, Procedures, entered}
 use Rattle.bags.proofs.Cuts.{entered_held}
 use Rattle.bags.proofs.Bags.enter.Goals as goal
 

@@ -1,6 +1,4 @@
-use Rattle.std.proofs.Common.{◌∙◌, ◌≡◌, ap, length, arith}
-use Rattle.bags.specs.Procedures.{Procedures}
-use Rattle.bags.specs.Stretches.{stretches}
+use Rattle.bags.proofs.Common.{◌∙◌, ◌≡◌, ap, length, arith, Procedures, stretches}
 use Rattle.bags.proofs.Cuts.{length-procedures_of}
 use Rattle.bags.proofs.Counting.{length-stretches, are_few}
 use Rattle.bags.proofs.Bags.held.Goals as goal

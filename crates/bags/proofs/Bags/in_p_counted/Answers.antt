@@ -1,11 +1,4 @@
-use Rattle.std.proofs.Common.{◌≡◌, ◌∙◌, ◌<◌, ◌≤◌, ℕ, List, length, reverse, ap, subst, arith}
-use Rattle.bags.specs.Nested.{Nested}
-use Rattle.bags.specs.Numbers.{digits}
-use Rattle.bags.specs.Procedures.{Procedures, in_p}
-use Rattle.bags.specs.Search.{IsKeeper}
-use Rattle.bags.specs.Stretch.{Stretch}
-use Rattle.bags.specs.Stretches.{stretches}
-use Rattle.bags.specs.Held.{procedures_of, AreHeld}
+use Rattle.bags.proofs.Common.{◌≡◌, ◌∙◌, ◌<◌, ◌≤◌, ℕ, List, length, reverse, ap, subst, arith, Nested, digits, Procedures, in_p, IsKeeper, Stretch, stretches, procedures_of, AreHeld}
 use Rattle.bags.proofs.BagPaths.{in_p-decides}
 use Rattle.bags.proofs.Counting.{length-stretches}
 use Rattle.bags.proofs.Cuts.{all_ascend, first_at_root, in_p-keeper}

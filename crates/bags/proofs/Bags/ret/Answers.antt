@@ -1,9 +1,4 @@
-use Rattle.std.proofs.Common.{ap, ◌∙◌, ◌≡◌, inl, inr, ◌<◌, ◌++◌, ◌∷◌, [], ℕ, Bool, true, false, not, length, length-append, take, refl, subst, sym, List, arith}
-use Rattle.dag.specs.declared.records.Record.TheVariants.{Return}
-use Rattle.bags.specs.Nested.{Nested}
-use Rattle.bags.specs.Stretch.{Stretch, stretch_of, bag_before}
-use Rattle.bags.specs.Held.{procedures_of, AreHeld}
-use Rattle.bags.specs.Procedures.{Procedures, event}
+use Rattle.bags.proofs.Common.{ap, ◌∙◌, ◌≡◌, inl, inr, ◌<◌, ◌++◌, ◌∷◌, [], ℕ, Bool, true, false, not, length, length-append, take, refl, subst, sym, List, arith, Return, Nested, Stretch, stretch_of, bag_before, procedures_of, AreHeld, Procedures, event}
 use Rattle.bags.proofs.Cuts.{begins_within, closed, executes, held_as, joined_held, moved_held, same_or_other, more_than_root, parent_before}
 use Rattle.bags.proofs.Bags.ret.Goals as goal
 

@@ -1,9 +1,4 @@
-use Rattle.std.proofs.Common.{ap, ◌∙◌, ◌≡◌, ◌+◌, ◌-◌, ◌<◌, get_or, ℕ, length, take, refl, subst, sym, List, arith}
-use Rattle.dag.specs.declared.records.Record.TheVariants.{Sync}
-use Rattle.bags.specs.Nested.{Nested}
-use Rattle.bags.specs.Stretch.{Stretch}
-use Rattle.bags.specs.Held.{procedures_of, AreHeld}
-use Rattle.bags.specs.Procedures.{Procedures, event}
+use Rattle.bags.proofs.Common.{ap, ◌∙◌, ◌≡◌, ◌+◌, ◌-◌, ◌<◌, get_or, ℕ, length, take, refl, subst, sym, List, arith, Sync, Nested, Stretch, procedures_of, AreHeld, Procedures, event}
 use Rattle.bags.proofs.Counting.{are_few}
 use Rattle.bags.proofs.Cuts.{begins_within, executing, synced_held}
 use Rattle.bags.proofs.Bags.sync.Goals as goal

@@ -1,6 +1,4 @@
-use Rattle.std.proofs.Common.{◌≡◌, ◌*◌, ◌%◌, ◌^◌, suc, ap, sym, ◌∙◌, ℕ, arith}
-use Rattle.std.proofs.Math.Nat.{two-pow-succ}
-use Rattle.bags.specs.Numbers.{digits}
+use Rattle.bags.proofs.Common.{◌≡◌, ◌*◌, ◌%◌, ◌^◌, suc, ap, sym, ◌∙◌, ℕ, arith, two-pow-succ, digits}
 use Rattle.bags.proofs.Halving.{digits_are}
 use Rattle.bags.proofs.search.longest_step.Goals as goal
 

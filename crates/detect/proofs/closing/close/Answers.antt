@@ -1,15 +1,6 @@
-use Rattle.std.proofs.Common.{◌≡◌, ℕ, vec_len, List, map, inl, refl, sym, ap, subst, ◌∙◌, arith}
-use Rattle.std.proofs.lemmas.Simd.{map-map}
-use Rattle.dag.specs.Accesses.{RaceAt}
-use Rattle.dag.specs.Traces.{placed}
-use Rattle.dag.specs.Parts.{records_of}
-use Rattle.collect.specs.Collected.{Collection, KeepsBest, IsCollected}
+use Rattle.detect.proofs.Common.{◌≡◌, ℕ, vec_len, List, map, inl, refl, sym, ap, subst, ◌∙◌, arith, map-map, RaceAt, placed, records_of, Collection, KeepsBest, IsCollected, ends_refused, refused_for_want, HasRoom, takers_of, IsCompared}
 use Rattle.detect.proofs.RunAnswers.{trouble_of, failed_run, none_refused, finished_of, of_good}
-use Rattle.trace.proofs.Endings.{ends_refused, refused_for_want}
-use Rattle.detect.specs.Rooms.{HasRoom}
 use Rattle.shard.proofs.Shares.{in_order_of_part, rise-part}
-use Rattle.detect.specs.Closing.{takers_of}
-use Rattle.detect.specs.Finished.{IsCompared}
 use Rattle.detect.proofs.RunReported.{rising_from, run_of_takers, took_shares, run_finds}
 use Rattle.detect.proofs.closing.close.Goals as goal
 

@@ -1,6 +1,4 @@
-use Rattle.std.proofs.Common.{length, length-append, [], ◌∷◌, sym, ap, ◌∙◌, arith}
-use Rattle.std.proofs.lemmas.List.{nil_from_length}
-use Rattle.detect.specs.Closing.{takers_of, counts_of}
+use Rattle.detect.proofs.Common.{length, length-append, [], ◌∷◌, sym, ap, ◌∙◌, arith, nil_from_length, takers_of, counts_of}
 use Rattle.detect.proofs.WorkersDone.{split_more, gone_through, counts_more, lanes_more}
 use Rattle.detect.proofs.closing.into_run.Goals as goal
 

@@ -1,5 +1,4 @@
-use Rattle.std.proofs.Common.{◌≡◌, ◌++◌, length, vec_len, vec_capacity}
-use Rattle.detect.specs.Closing.{takers_of, counts_of}
+use Rattle.detect.proofs.Common.{◌≡◌, ◌++◌, length, vec_len, vec_capacity, takers_of, counts_of}
 use Rattle.detect.proofs.closing.into_run.Given as goal
 
 abbrev pub invariant-loop-worked : goal.invariant-loop-worked

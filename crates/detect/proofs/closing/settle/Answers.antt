@@ -1,9 +1,4 @@
-use Rattle.std.proofs.Common.{ℕ, ◌<◌, vec_len, List, refl, sym, subst, arith}
-use Rattle.dag.specs.declared.records.Placed.{Placed}
-use Rattle.dag.specs.declared.back.Back.{Back}
-use Rattle.lane.specs.declared.item.Item.{Item}
-use Rattle.detect.specs.Closing.{taken_by, IsSettled, IsEmptied}
-use Rattle.detect.specs.Gathered.{given_by}
+use Rattle.detect.proofs.Common.{ℕ, ◌<◌, vec_len, List, refl, sym, subst, arith, Placed, Back, Item, taken_by, IsSettled, IsEmptied, given_by}
 use Rattle.detect.proofs.Receipts.{front_same, same_work_trans}
 use Rattle.detect.proofs.closing.settle.Goals as goal
 

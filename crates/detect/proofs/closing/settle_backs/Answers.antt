@@ -1,9 +1,4 @@
-use Rattle.std.proofs.Common.{rules, refl, ap, ◌∙◌}
-use Rattle.std.proofs.Math.Seq.{map-set_same}
-use Rattle.lane.specs.Lanes.{put_of}
-use Rattle.shard.specs.declared.worker_loop.Worked.{Worked}
-use Rattle.detect.specs.Gathered.{given_by}
-use Rattle.detect.specs.Closing.{given_back, IsSettled}
+use Rattle.detect.proofs.Common.{rules, refl, ap, ◌∙◌, map-set_same, put_of, Worked, given_by, given_back, IsSettled}
 use Rattle.detect.proofs.LanesBack.{ended_to}
 use Rattle.detect.proofs.Receipts.{front_same, at_front, within_front, at_map, settled_at, same_set}
 use Rattle.detect.proofs.closing.settle_backs.Goals as goal

@@ -1,6 +1,4 @@
-use Rattle.std.proofs.Common.{◌≡◌, ℕ, ◌<◌, map}
-use Rattle.detect.specs.Gathered.{given_by}
-use Rattle.detect.specs.Closing.{given_back, takers_of, IsSameWork, IsSettled}
+use Rattle.detect.proofs.Common.{◌≡◌, ℕ, ◌<◌, map, given_by, given_back, takers_of, IsSameWork, IsSettled}
 use Rattle.detect.proofs.closing.settle_backs.Given as goal
 
 abbrev pub invariant-loop-shard : goal.invariant-loop-shard

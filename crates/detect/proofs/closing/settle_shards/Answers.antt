@@ -1,8 +1,4 @@
-use Rattle.std.proofs.Common.{rules, map, refl, sym, ap, ◌∙◌}
-use Rattle.std.proofs.Math.Seq.{map-set_same}
-use Rattle.lane.specs.Lanes.{put_of}
-use Rattle.shard.specs.declared.worker_loop.Worked.{Worked}
-use Rattle.detect.specs.Closing.{taken_by, IsSettled}
+use Rattle.detect.proofs.Common.{rules, map, refl, sym, ap, ◌∙◌, map-set_same, put_of, Worked, taken_by, IsSettled}
 use Rattle.detect.proofs.LanesBack.{ended_to}
 use Rattle.detect.proofs.Receipts.{front_same, at_front, within_front, at_map, settled_at, same_set, emptied_by, emptied_more}
 use Rattle.detect.proofs.closing.settle_shards.Goals as goal

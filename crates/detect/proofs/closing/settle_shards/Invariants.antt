@@ -1,6 +1,4 @@
-use Rattle.std.proofs.Common.{◌≡◌, ℕ, ◌<◌, map}
-use Rattle.lane.specs.Lanes.{put_of}
-use Rattle.detect.specs.Closing.{taken_by, takers_of, IsSameWork, IsSettled, IsEmptied}
+use Rattle.detect.proofs.Common.{◌≡◌, ℕ, ◌<◌, map, put_of, taken_by, takers_of, IsSameWork, IsSettled, IsEmptied}
 use Rattle.detect.proofs.closing.settle_shards.Given as goal
 
 abbrev pub invariant-loop-shard : goal.invariant-loop-shard

@@ -1,5 +1,4 @@
-use Rattle.std.proofs.Common.{◌≡◌, ◌+◌, length, sym, subst, arith}
-use Rattle.detect.specs.Readiness.{AreJobsFrom, IsJobOf}
+use Rattle.detect.proofs.Common.{◌≡◌, ◌+◌, length, sym, subst, arith, AreJobsFrom, IsJobOf}
 use Rattle.detect.proofs.TiedEnds.{jobs_more, tied_more}
 use Rattle.detect.proofs.made.add_shard.Goals as goal
 

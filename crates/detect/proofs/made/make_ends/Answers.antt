@@ -1,5 +1,4 @@
-use Rattle.std.proofs.Common.{rules, length, sym, ap, subst, arith}
-use Rattle.detect.specs.Readiness.{AreJobsFrom}
+use Rattle.detect.proofs.Common.{rules, length, sym, ap, subst, arith, AreJobsFrom}
 use Rattle.detect.proofs.TiedEnds.{tied_none}
 use Rattle.detect.proofs.made.make_ends.Goals as goal
 

@@ -1,5 +1,4 @@
-use Rattle.std.proofs.Common.{◌≡◌, ◌+◌, length, vec_len}
-use Rattle.detect.specs.Readiness.{AreJobsFrom, IsTied}
+use Rattle.detect.proofs.Common.{◌≡◌, ◌+◌, length, vec_len, AreJobsFrom, IsTied}
 use Rattle.detect.proofs.made.make_ends.Given as goal
 
 abbrev pub invariant-loop-hasher : goal.invariant-loop-hasher

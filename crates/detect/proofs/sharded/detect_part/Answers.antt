@@ -1,14 +1,7 @@
-use Rattle.std.proofs.Common.{◌≡◌, ◌≤◌, ℕ, inl, refl, sym, ◌∙◌, vec_len, subst, arith, rules}
-use Rattle.dag.specs.declared.part.Part.{Part}
-use Rattle.trace.specs.Devices.{◌⇝◌}
-use Rattle.trace.specs.Endings.{EndsReading, IsWantOfMemoryOrThread}
-use Rattle.trace.proofs.Endings.{ends_refused, refused_for_want}
-use Rattle.detect.specs.Rooms.{HasRoom}
-use Rattle.detect.specs.RunFinds.{RunFindsPart}
+use Rattle.detect.proofs.Common.{◌≡◌, ◌≤◌, ℕ, inl, refl, sym, ◌∙◌, vec_len, subst, arith, rules, Part, ◌⇝◌, EndsReading, IsWantOfMemoryOrThread, ends_refused, refused_for_want, HasRoom, RunFindsPart, fit_part}
 use Rattle.detect.proofs.Endings.{trace_of, refusal_of}
 use Rattle.detect.proofs.RunDone.{run_capacity, room_if}
 use Rattle.detect.proofs.RunAnswers.{run_ends}
-use Rattle.detect_plain.proofs.PartReports.{fit_part}
 use Rattle.detect.proofs.PartReports.{part_ends}
 use Rattle.detect.proofs.sharded.detect_part.Goals as goal
 

@@ -1,6 +1,4 @@
-use Rattle.std.proofs.Common.{vec_len, ap, subst, sym, ◌∙◌, arith}
-use Rattle.detect.specs.declared.reading_thread.ReadingThread.{ReadingThread}
-use Rattle.detect.specs.Sent.{GoesOn}
+use Rattle.detect.proofs.Common.{vec_len, ap, subst, sym, ◌∙◌, arith, ReadingThread, GoesOn}
 use Rattle.detect.proofs.Endings.{lacks_no_thread}
 use Rattle.detect.proofs.LanesBack.{further_trans}
 use Rattle.detect.proofs.Sendings.{goes_on_refl, goes_on_trans}

@@ -1,5 +1,4 @@
-use Rattle.std.proofs.Common.{◌≡◌, length, map, vec_len, vec_capacity}
-use Rattle.detect.specs.Workers.{AllDid, handle_lanes}
+use Rattle.detect.proofs.Common.{◌≡◌, length, map, vec_len, vec_capacity, AllDid, handle_lanes}
 use Rattle.detect.proofs.workers.join_all.Given as goal
 
 abbrev pub invariant-loop-handle : goal.invariant-loop-handle

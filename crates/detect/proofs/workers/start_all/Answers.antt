@@ -1,7 +1,4 @@
-use Rattle.std.proofs.Common.{List, length, sym, ap, subst, arith, ◌∙◌}
-use Rattle.std.proofs.lemmas.List.{nil_from_length}
-use Rattle.detect.specs.declared.workers.Job.{Job}
-use Rattle.detect.specs.Workers.{AllFresh}
+use Rattle.detect.proofs.Common.{List, length, sym, ap, subst, arith, ◌∙◌, nil_from_length, Job, AllFresh}
 use Rattle.detect.proofs.WorkersDone.{started_more, started_all, started_first, split_more}
 use Rattle.detect.proofs.workers.start_all.Goals as goal
 

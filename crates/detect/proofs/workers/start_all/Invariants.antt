@@ -1,5 +1,4 @@
-use Rattle.std.proofs.Common.{◌≡◌, ◌+◌, ◌++◌, length, map, vec_len, vec_capacity}
-use Rattle.detect.specs.Workers.{AllFresh, job_lanes, handle_lanes}
+use Rattle.detect.proofs.Common.{◌≡◌, ◌+◌, ◌++◌, length, map, vec_len, vec_capacity, AllFresh, job_lanes, handle_lanes}
 use Rattle.detect.proofs.workers.start_all.Given as goal
 
 abbrev pub invariant-loop-job : goal.invariant-loop-job

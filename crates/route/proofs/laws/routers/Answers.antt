@@ -1,9 +1,4 @@
-use Rattle.std.proofs.Common.{◌≡◌, [], List, ⊎_elim, sym, ap, subst, ◌∙◌, append-nil}
-use Rattle.dag.specs.declared.records.Placed.{Placed}
-use Rattle.route.specs.Routers.{RouterState}
-use Rattle.route.specs.Sending.{put_on}
-use Rattle.route.specs.Routed.{IsRising, in_hand}
-use Rattle.route.specs.Routers.{lane_count, HasSent}
+use Rattle.route.proofs.Common.{◌≡◌, [], List, ⊎_elim, sym, ap, subst, ◌∙◌, append-nil, Placed, RouterState, put_on, IsRising, in_hand, lane_count, HasSent}
 use Rattle.route.proofs.Headline.{takes_share}
 use Rattle.route.proofs.LaneShares.{IsUnderWay, Outcome, outcome, routes_of, has_routed, list_of}
 use Rattle.route.proofs.RouterRuns.{router_run, router_puts, router_still}

@@ -1,9 +1,8 @@
-use Rattle.std.proofs.Common.{◌++◌}
+use Rattle.route.proofs.Common.{◌++◌, put_list, taken_list}
 use Rattle.route.proofs.Headline.{takes_share}
 use Rattle.route.proofs.LaneShares.{routes_of, has_routed}
 use Rattle.route.proofs.RunLists.{taken_front, taken_before, earlier, front_of, outcome_of, whole_run}
 use Rattle.route.proofs.RouterRuns.{run_took}
-use Rattle.route.specs.Runs.{put_list, taken_list}
 use Rattle.route.proofs.laws.runs.Goals as goal
 
 pub returns-clause-some : goal.returns-clause-some

@@ -1,6 +1,4 @@
-use Rattle.std.proofs.Common.{◌≡◌, ℕ, ◌*◌, ◌^◌, sym, subst, arith}
-use Rattle.bags.specs.Numbers.{digits}
-use Rattle.bags.specs.Search.{IsStart}
+use Rattle.bags.proofs.Common.{◌≡◌, ℕ, ◌*◌, ◌^◌, sym, subst, arith, digits, IsStart}
 use Rattle.bags.proofs.Halving.{longest, long_of}
 use Rattle.bags.proofs.search.Start.of_fewer.Goals as goal
 use Rattle.bags.proofs.search.Start.of_fewer.Goals.{then-len-self, else-len-self}

@@ -1,6 +1,4 @@
-use Rattle.std.proofs.Common.{◌≡◌, ◌^◌, suc, sym, subst, refl, arith}
-use Rattle.std.proofs.Math.Nat.{two-pow-succ}
-use Rattle.bags.specs.Search.{IsStart}
+use Rattle.bags.proofs.Common.{◌≡◌, ◌^◌, suc, sym, subst, refl, arith, two-pow-succ, IsStart}
 use Rattle.bags.proofs.Halving.{longest, long_of, from_middle, from_second}
 use Rattle.bags.proofs.search.Start.of_more.Goals as goal
 

@@ -1,5 +1,4 @@
-use Rattle.std.proofs.Common.{◌≡◌}
-use Rattle.detect.specs.LanesBack.{IsFurther}
+use Rattle.detect.proofs.Common.{◌≡◌, IsFurther}
 use Rattle.detect.proofs.gathering.Gathering.finish_lane.Given as goal
 
 abbrev pub invariant-loop : goal.invariant-loop

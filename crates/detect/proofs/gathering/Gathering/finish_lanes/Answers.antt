@@ -1,5 +1,4 @@
-use Rattle.std.proofs.Common.{arith}
-use Rattle.detect.specs.LanesBack.{HasBackMark}
+use Rattle.detect.proofs.Common.{arith, HasBackMark}
 use Rattle.detect.proofs.LanesBack.{further_refl, further_trans, ended_to}
 use Rattle.detect.proofs.gathering.Gathering.finish_lanes.Goals as goal
 

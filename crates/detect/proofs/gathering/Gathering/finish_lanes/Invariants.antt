@@ -1,5 +1,4 @@
-use Rattle.std.proofs.Common.{ℕ, ◌<◌}
-use Rattle.detect.specs.LanesBack.{IsFurther, HasBackMark}
+use Rattle.detect.proofs.Common.{ℕ, ◌<◌, IsFurther, HasBackMark}
 use Rattle.detect.proofs.gathering.Gathering.finish_lanes.Given as goal
 
 abbrev pub invariant-loop-shard : goal.invariant-loop-shard

@@ -1,5 +1,4 @@
-use Rattle.std.proofs.Common.{rules, take}
-use Rattle.detect.specs.Gathered.{given_by}
+use Rattle.detect.proofs.Common.{rules, take, given_by}
 use Rattle.detect.proofs.LanesBack.{further_kept, within_given}
 use Rattle.detect.proofs.gathering.Gathering.take_block_from.Goals as goal
 

@@ -1,5 +1,4 @@
-use Rattle.std.proofs.Common.{rules, [], ◌∷◌}
-use Rattle.detect.specs.Gathered.{given_by}
+use Rattle.detect.proofs.Common.{rules, [], ◌∷◌, given_by}
 use Rattle.detect.proofs.LanesBack.{further_kept, further_none, further_trans, within_given}
 use Rattle.detect.proofs.gathering.Gathering.take_from.Goals as goal
 

@@ -1,7 +1,4 @@
-use Rattle.std.proofs.Common.{◌≡◌, List, None}
-use Rattle.dag.specs.declared.records.Placed.{Placed}
-use Rattle.route.specs.Routers.{HasSent}
-use Rattle.detect.specs.Sent.{GoesOn}
+use Rattle.detect.proofs.Common.{◌≡◌, List, None, Placed, HasSent, GoesOn}
 use Rattle.detect.proofs.reading_thread.ReadingThread.mark_all.Given as goal
 
 abbrev pub invariant-loop : goal.invariant-loop

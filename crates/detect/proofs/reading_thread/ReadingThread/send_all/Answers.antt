@@ -1,12 +1,5 @@
-use Rattle.std.proofs.Common.{rules, ◌≡◌, ℕ, [], ◌∷◌, ◌++◌, refl, sym, ap, subst, ◌∙◌}
-use Rattle.dag.specs.Traces.{placed}
-use Rattle.dag.specs.Parts.{records_of}
-use Rattle.trace.specs.Devices.{Change, ◌⇝◌}
-use Rattle.trace.specs.Endings.{IsWantOfMemory}
-use Rattle.trace.specs.Feeding.{Feeding, HasFed, IsWhole}
+use Rattle.detect.proofs.Common.{rules, ◌≡◌, ℕ, [], ◌∷◌, ◌++◌, refl, sym, ap, subst, ◌∙◌, placed, records_of, Change, ◌⇝◌, IsWantOfMemory, Feeding, HasFed, IsWhole, ends_refused, refused_by_fault, given_next, given_end, ReadingThread}
 use Rattle.trace.proofs.Feedings.{consumes_none, consumes_more, fed_none, at_limits}
-use Rattle.trace.proofs.Endings.{ends_refused, refused_by_fault, given_next, given_end}
-use Rattle.detect.specs.declared.reading_thread.ReadingThread.{ReadingThread}
 use Rattle.detect.proofs.Sendings.{goes_on_refl, goes_on_trans, goes_on_both, fewer_left, sent_more}
 use Rattle.detect.proofs.reading_thread.ReadingThread.send_all.Goals as goal
 

@@ -1,11 +1,4 @@
-use Rattle.std.proofs.Common.{◌≡◌, ◌-◌, ℕ, List}
-use Rattle.dag.specs.declared.records.Record.{Record}
-use Rattle.dag.specs.Traces.{placed}
-use Rattle.dag.specs.Parts.{records_of}
-use Rattle.trace.specs.Devices.{◌⇝◌, Gave, IsSteady}
-use Rattle.trace.specs.Feeding.{HasFed}
-use Rattle.route.specs.Routers.{HasSent}
-use Rattle.detect.specs.Sent.{MaySend, GoesOn}
+use Rattle.detect.proofs.Common.{◌≡◌, ◌-◌, ℕ, List, Record, placed, records_of, ◌⇝◌, Gave, IsSteady, HasFed, HasSent, MaySend, GoesOn}
 use Rattle.detect.proofs.reading_thread.ReadingThread.send_all.Given as goal
 
 abbrev pub invariant-records : goal.invariant-records

@@ -1,7 +1,4 @@
-use Rattle.std.proofs.Common.{List, Option, Some, refl, sym, subst, ◌∙◌}
-use Rattle.dag.specs.declared.records.Placed.{Placed}
-use Rattle.route.specs.Sending.{sent_whole}
-use Rattle.route.specs.Routers.{HasSent}
+use Rattle.detect.proofs.Common.{List, Option, Some, refl, sym, subst, ◌∙◌, Placed, sent_whole, HasSent}
 use Rattle.detect.proofs.LanesBack.{further_refl}
 use Rattle.detect.proofs.Sendings.{goes_on_trans, sent_step, sent_idle, still_pending}
 use Rattle.detect.proofs.reading_thread.ReadingThread.send_rest.Goals as goal

@@ -1,8 +1,4 @@
-use Rattle.std.proofs.Common.{◌≡◌, List, Some}
-use Rattle.dag.specs.declared.records.Placed.{Placed}
-use Rattle.route.specs.Sending.{sent_whole}
-use Rattle.route.specs.Routers.{HasSent}
-use Rattle.detect.specs.Sent.{GoesOn}
+use Rattle.detect.proofs.Common.{◌≡◌, List, Some, Placed, sent_whole, HasSent, GoesOn}
 use Rattle.detect.proofs.reading_thread.ReadingThread.send_rest.Given as goal
 
 abbrev pub invariant-loop : goal.invariant-loop

@@ -1,7 +1,4 @@
-use Rattle.std.proofs.Common.{◌≡◌, ℕ, ◌<◌, length, refl, ap, ◌∙◌, arith}
-use Rattle.lane.specs.Lanes.{put_of}
-use Rattle.route.specs.Senders.{puts}
-use Rattle.route.specs.Routers.{RouterState}
+use Rattle.route.proofs.Common.{◌≡◌, ℕ, ◌<◌, length, refl, ap, ◌∙◌, arith, put_of, puts, RouterState}
 use Rattle.route.proofs.Lists.{map-set_like, puts_counted, all_shown}
 use Rattle.route.proofs.Steps.{unchanged, router_same}
 use Rattle.route.proofs.router.Router.flush.Goals as goal

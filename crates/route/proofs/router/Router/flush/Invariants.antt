@@ -1,6 +1,4 @@
-use Rattle.std.proofs.Common.{◌≡◌, ℕ, ◌<◌, [], slice_index_or, vec_len}
-use Rattle.route.specs.Senders.{lanes, capacities, puts, shown}
-use Rattle.route.specs.Sending.{put_on}
+use Rattle.route.proofs.Common.{◌≡◌, ℕ, ◌<◌, [], slice_index_or, vec_len, lanes, capacities, puts, shown, put_on}
 use Rattle.route.proofs.router.Router.flush.Given as goal
 
 abbrev pub invariant-loop-lane : goal.invariant-loop-lane

@@ -1,5 +1,4 @@
-use Rattle.std.proofs.Common.{◌≡◌, length, map, vec_len, vec_capacity}
-use Rattle.lane.specs.Lanes.{put_of}
+use Rattle.route.proofs.Common.{◌≡◌, length, map, vec_len, vec_capacity, put_of}
 use Rattle.route.proofs.router.Router.into_ends.Given as goal
 
 abbrev pub invariant-loop-sender : goal.invariant-loop-sender

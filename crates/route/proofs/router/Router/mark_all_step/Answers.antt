@@ -1,8 +1,4 @@
-use Rattle.std.proofs.Common.{◌≡◌, ◌<◌, length, None, refl, sym, ap, ◌∙◌, arith}
-use Rattle.lane.specs.Items.{has_mark}
-use Rattle.route.specs.Senders.{puts}
-use Rattle.route.specs.Routers.{RouterState, HasBlocked}
-use Rattle.route.specs.Steps.{HasMarkedOn, HasMarkedNext}
+use Rattle.route.proofs.Common.{◌≡◌, ◌<◌, length, None, refl, sym, ap, ◌∙◌, arith, has_mark, puts, RouterState, HasBlocked, HasMarkedOn, HasMarkedNext}
 use Rattle.route.proofs.Lists.{puts_counted, put_at, mark_ok, mark_err}
 use Rattle.route.proofs.Sent.{unmarked_at}
 use Rattle.route.proofs.Steps.{over_view, unchanged, router_same, router_marked, marked_on, marked_same, marks_next}

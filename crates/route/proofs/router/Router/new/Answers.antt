@@ -1,10 +1,4 @@
-use Rattle.std.proofs.Common.{◌≡◌, List, [], refl, arith}
-use Rattle.std.proofs.lemmas.List.{length-map}
-use Rattle.std.proofs.lemmas.List.Elements.{All-map}
-use Rattle.lane.specs.declared.item.Item.{Item}
-use Rattle.lane.specs.Lanes.{put_of}
-use Rattle.dag.specs.declared.records.Placed.{Placed}
-use Rattle.route.specs.Senders.{puts}
+use Rattle.route.proofs.Common.{◌≡◌, List, [], refl, arith, length-map, All-map, Item, put_of, Placed, puts}
 use Rattle.route.proofs.Lists.{puts_counted}
 use Rattle.route.proofs.Sent.{all_empty}
 use Rattle.route.proofs.router.Router.new.Goals as goal

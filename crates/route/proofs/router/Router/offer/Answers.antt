@@ -1,8 +1,4 @@
-use Rattle.std.proofs.Common.{◌≡◌, ℕ, length, Option, refl, subst, ap, ◌∙◌, arith}
-use Rattle.dag.specs.declared.records.Placed.{Placed}
-use Rattle.route.specs.Senders.{puts}
-use Rattle.route.specs.Sending.{first_lane}
-use Rattle.route.specs.Steps.{IsIdle, HasOffered}
+use Rattle.route.proofs.Common.{◌≡◌, ℕ, length, Option, refl, subst, ap, ◌∙◌, arith, Placed, puts, first_lane, IsIdle, HasOffered}
 use Rattle.route.proofs.Lists.{puts_counted}
 use Rattle.route.proofs.Sent.{OnPuts, sent-offer}
 use Rattle.route.proofs.SentSoFar.{step_event-offer}

@@ -1,12 +1,4 @@
-use Rattle.std.proofs.Common.{◌≡◌, ℕ, ◌<◌, true, false, List, [], ◌∷◌, ◌++◌, length, slice_index_or, Option, Some, None, refl, sym, ap, subst, ◌∙◌, arith}
-use Rattle.std.proofs.lemmas.List.{length-set}
-use Rattle.lane.specs.declared.item.Item.TheVariants.{One}
-use Rattle.lane.specs.Items.{has_mark}
-use Rattle.dag.specs.declared.records.Placed.{Placed}
-use Rattle.dag.specs.Shares.{goes, goes_placed}
-use Rattle.route.specs.Senders.{puts, with_refusal}
-use Rattle.route.specs.Sending.{first_lane, put_on, with_put}
-use Rattle.route.specs.Routers.{RouterState, HasSent}
+use Rattle.route.proofs.Common.{◌≡◌, ℕ, ◌<◌, true, false, List, [], ◌∷◌, ◌++◌, length, slice_index_or, Option, Some, None, refl, sym, ap, subst, ◌∙◌, arith, length-set, One, has_mark, Placed, goes, goes_placed, puts, with_refusal, first_lane, put_on, with_put, RouterState, HasSent}
 use Rattle.route.proofs.Lists.{puts_counted, put_at, put_ok, put_err}
 use Rattle.route.proofs.Sent.{Items, OnPuts, first_lane_within, goes-first_lane, sent-offer, sent-next, sent-last, unmarked_at}
 use Rattle.route.proofs.Steps.{router_same, router_put, router_aim, aimed_at, has_sent_record, has_stuck}

@@ -1,8 +1,4 @@
-use Rattle.std.proofs.Common.{◌≡◌, ◌-◌, ◌<◌, List, Some, None, true, length}
-use Rattle.dag.specs.declared.records.Placed.{Placed}
-use Rattle.dag.specs.Shares.{goes_placed}
-use Rattle.route.specs.Senders.{lanes, capacities, puts, refusals}
-use Rattle.route.specs.Routers.{HasSent, lane_count}
+use Rattle.route.proofs.Common.{◌≡◌, ◌-◌, ◌<◌, List, Some, None, true, length, Placed, goes_placed, lanes, capacities, puts, refusals, HasSent, lane_count}
 use Rattle.route.proofs.Sent.{OnPuts}
 use Rattle.route.proofs.router.Router.send.Given as goal
 

@@ -1,13 +1,4 @@
-use Rattle.std.proofs.Common.{◌≡◌, ℕ, true, [], ◌∷◌, ◌++◌, length, Some, None, refl, sym, ap, subst, ◌∙◌, arith}
-use Rattle.std.proofs.lemmas.List.{length-set}
-use Rattle.lane.specs.declared.item.Item.TheVariants.{One}
-use Rattle.lane.specs.Items.{has_mark}
-use Rattle.dag.specs.declared.records.Placed.{Placed}
-use Rattle.dag.specs.Shares.{goes_placed}
-use Rattle.route.specs.Senders.{puts}
-use Rattle.route.specs.Sending.{put_on}
-use Rattle.route.specs.Routers.{HasBlocked}
-use Rattle.route.specs.Steps.{HasGoneOn, HasPutNext}
+use Rattle.route.proofs.Common.{◌≡◌, ℕ, true, [], ◌∷◌, ◌++◌, length, Some, None, refl, sym, ap, subst, ◌∙◌, arith, length-set, One, has_mark, Placed, goes_placed, puts, put_on, HasBlocked, HasGoneOn, HasPutNext}
 use Rattle.route.proofs.Lists.{puts_counted, put_at, put_ok, put_err}
 use Rattle.route.proofs.Sent.{unmarked_at}
 use Rattle.route.proofs.Steps.{over_view, for_pending, router_same, router_put, router_aim, aimed_at, unchanged, gone_same, gone_next, gone_last, puts_next, puts_last}
