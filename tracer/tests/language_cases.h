@@ -130,6 +130,9 @@ static int reads_by_type(int *at);
 static reader reader_of(int (*read)(int *) __attribute__((const))) { return read; }
 CASE(reader_of(reads_by_type)(AS(int, big)), R(big, 0, 4)) static int reads_by_type(int *at) { return *at; }
 
+/* ---- What is asked and not computed ---- */
+CASE(if (!__builtin_constant_p(*AS(int, big) + 1)) sink = AS(int, big)[1], R(big, 4, 4))
+
 /* ---- Atomic ---- */
 #define ATOMIC_INT AS(_Atomic int, big)
 CASE(*ATOMIC_INT = 3, W(big, 0, 4)) CASE(sink = *ATOMIC_INT, R(big, 0, 4)) CASE(*ATOMIC_INT += 3, W(big, 0, 4))
