@@ -357,6 +357,26 @@ static void first_reach(void) { some_reach(0, 2, false); }
 static void middle_reach(void) { some_reach(3, 5, true); }
 static void last_reach(void) { some_reach(6, 8, false); }
 
+/* One iteration reaches it by its name, and one by a pointer: that races where the thread that has it does the first. */
+static void named_reach(bool reads_before) {
+#pragma omp parallel num_threads(2)
+    {
+        int local = 0;
+#pragma omp single
+        of_master = &local;
+        int *before = reads_before ? of_master : NULL;
+#pragma omp for
+        for (int i = 0; i < 8; i++)
+            if (i == 1)
+                local = i; /* [by name] */
+            else if (i == 4)
+                *(reads_before ? before : of_master) = i; /* [beside name] */
+    }
+}
+
+static void named_once(void) { named_reach(false); }
+static void named_before(void) { named_reach(true); }
+
 /* Who does an iteration of the first loop has what one of the second reaches: the last thread does both of these. */
 static void last_by_last(void) {
 #pragma omp parallel num_threads(2)
@@ -879,6 +899,8 @@ int main(int count, char **words) {
                 {"first_reach", first_reach, true},
                 {"middle_reach", middle_reach, true},
                 {"last_reach", last_reach, true},
+                {"named_once", named_once, true},
+                {"named_before", named_before, true},
                 {"last_by_last", last_by_last, true},
                 {"scratch", scratch, true},
                 {"single_by_single", single_by_single, true},

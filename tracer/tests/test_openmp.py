@@ -148,6 +148,8 @@ ANSWERS = [
     ("first_reach", 1, "", "some reach", "some reach", {}),
     ("middle_reach", 1, "", "some reach", "some reach", {}),
     ("last_reach", 1, "", "some reach", "some reach", {}),
+    ("named_once", 3, f"{at('beside name')}: this accesses a variable", "", "", {}),
+    ("named_before", 3, f"{at('beside name')}: this accesses a variable", "", "", {}),
     ("last_by_last", 3, f"{at('last by last')}: this accesses a variable", "", "", {}),
     ("scratch", 0, "", "", "", {}),
     ("single_by_single", 1, "", "single by single", "beside single by single", {}),

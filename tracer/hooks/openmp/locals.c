@@ -21,11 +21,21 @@ struct local {
     bool by_task, again;
 };
 
-/* Of each granule of the stacks: the newest phase in which a share accessed it, and whether one of that wrote; the same
-   of a share that is the only one of its kind, or whose thread is reached, or that left a task which did; whether a task
-   did; where it stands in the list; and after which event it was noted once more, with which number, and which of its
-   bytes as read and as written. */
+/* Bytes of a granule that were accessed in a phase of the team. */
+struct touched {
+    uint64_t phase;
+    unsigned read, written;
+};
+
+/* Of each granule of the stacks: the newest phase in which a share accessed it, and whether one of that wrote; the
+   same of a share that is the only one of its kind, or whose thread is reached, or that left a task which did;
+   whether a task did; where it stands in the list; and after which event it was noted once more, with which number,
+   and which of its bytes as read and as written. Then what shares of its own thread did there; and of a granule of
+   the team's first member what those of all members did in their own granules of this place, what others did by
+   pointers in one of these, and which that was. */
 struct place {
+    struct touched by_itself, by_all, by_others;
+    struct place *owner;
     uint64_t any_phase, phase;
     bool any_writes, has_task;
     unsigned read, written;
@@ -122,6 +132,62 @@ static void note_touched(const struct scope *thread, bool is_one, bool writes, c
         notes_keep(&notes.beside_task, code);
 }
 
+static void touch(struct touched *touched, bool writes, uintptr_t address) {
+    const unsigned bytes = all_bytes() & ~granules_bytes_left_out(address);
+    if (touched->phase != scopes.phases)
+        *touched = (struct touched){.phase = scopes.phases};
+    *(writes ? &touched->written : &touched->read) |= bytes;
+}
+
+/* The bytes that race if these are of two threads. */
+static unsigned racing(const struct touched *one, const struct touched *other) {
+    const bool is_now = one->phase == scopes.phases && other->phase == scopes.phases;
+    return is_now ? (one->written & (other->read | other->written)) | (one->read & other->written) : 0;
+}
+
+/* That of the team's first member, from whose stack all others' variables are equally far. */
+static struct place *common_place(const struct team *team, const struct member *of, uintptr_t address) {
+    const uintptr_t first = address - of->body + team->members->body;
+    return of->body != 0 && stacks_have(first) ? place_of(marks_at(first)) : NULL;
+}
+
+/* Shares of other threads than the one with the variable did what this one may do in another run, beside what others do
+   there by a pointer. */
+static void note_places(const struct place *place, uintptr_t code) {
+    if (place->owner &&
+        (racing(&place->by_all, &place->by_others) & ~racing(&place->owner->by_itself, &place->by_others)) != 0)
+        note_reached(code);
+}
+
+static void note_itself(const struct scope *thread, bool writes, uintptr_t address, const uint32_t *mark,
+                        uintptr_t code) {
+    struct place *place = common_place(thread->team, thread->member, address);
+    if (!place)
+        return;
+    touch(&place_of(mark)->by_itself, writes, address);
+    touch(&place->by_all, writes, address);
+    note_places(place, code);
+}
+
+static void note_other_of(const struct team *team, bool writes, uintptr_t address, uintptr_t code) {
+    const struct member *of = team->members;
+    while (of < team->members + team->size && !reached_lies_in(of, address))
+        of++;
+    struct place *place = of < team->members + team->size ? common_place(team, of, address) : NULL;
+    if (!place)
+        return;
+    touch(&place->by_others, writes, address);
+    place->owner = place_of(marks_at(address));
+    note_places(place, code);
+}
+
+/* Maybe a variable of a member that doesn't run. */
+static void note_other(bool writes, uintptr_t address, uintptr_t code) {
+    for (const struct scope *at = scopes.newest; at > scopes.first; at--)
+        if (at->kind == SCOPE_MEMBER)
+            note_other_of(at->team, writes, address, code);
+}
+
 static bool is_in_list(const struct scope *share, uintptr_t address, size_t at) {
     return at < locals.count && locals.list[at].address == address && locals.list[at].share == share->number;
 }
@@ -186,11 +252,15 @@ static const struct scope *scope_of(uintptr_t address, bool *by_task) {
 
 bool openmp_note_stack(bool writes, uintptr_t address, uint32_t *mark, uintptr_t code) {
     bool by_task = false;
-    if (stacks_find(address) != stacks_running)
+    if (stacks_find(address) != stacks_running) {
         openmp_note_other(address, code);
-    const struct scope *at = scope_of(address, &by_task);
+        note_other(writes, address, code);
+    }
+    const struct scope *at = scope_of(address, &by_task), *thread = thread_of(at);
+    if (at->kind == SCOPE_SHARE && thread->kind == SCOPE_MEMBER)
+        note_itself(thread, writes, address, mark, code);
     if (at->kind == SCOPE_SHARE)
-        return note_in_share(at, thread_of(at), by_task, writes, address, mark, code);
+        return note_in_share(at, thread, by_task, writes, address, mark, code);
     if (at > scopes.first && *mark != MARK_UNTOUCHED)
         note_touched(at, false, writes, place_of(mark), code);
     return false;

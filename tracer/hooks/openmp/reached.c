@@ -14,8 +14,7 @@ void reached_begin(void) { page_known = 0; }
 static void note_in_team(struct team *team, uintptr_t pointer) {
     for (unsigned number = 0; number < team->size; number++) {
         struct member *member = &team->members[number];
-        const uintptr_t first = member->stack->first;
-        if (pointer - first >= member->scope.stack_end - first)
+        if (!reached_lies_in(member, pointer))
             continue;
         team->reached |= (uint64_t)1 << number;
         member->reached = pointer > member->reached ? pointer : member->reached;

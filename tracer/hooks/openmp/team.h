@@ -23,8 +23,9 @@ struct member {
     struct frame *base;
     uint32_t depth;
     bool has_ended;
-    /* The highest address in its stack of a variable that others may know a pointer to. */
-    uintptr_t reached;
+    /* The highest address in its stack of a variable that others may know a pointer to; and the stack pointer where the
+       body begins, from which each member's variables are equally far. */
+    uintptr_t reached, body;
 };
 
 struct team {
