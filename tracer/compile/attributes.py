@@ -1,5 +1,5 @@
 """Attributes in a preprocessed source by which a function would be put into its caller, or its accesses would have no
-hooks: one that does nothing stands in their place."""
+hooks, or in C++ by gcc a call of one would be left out: one that does nothing stands in their place."""
 from __future__ import annotations
 
 import re
@@ -17,6 +17,8 @@ UNSEEN = {
     for sign in ("", "__")
     for name in ("no_sanitize", "no_sanitize_thread", "disable_sanitizer_instrumentation")
 }
+# A function that is said to do nothing but compute calls hooks too.
+CONST = re.compile(r"(?<![\w$])(?:const|__const__)(?=\s*[,)\]])")
 STEM = re.compile("always_inline|no_sanitize|disable_sanitizer_instrumentation")
 WORD = re.compile(r"(?<![\w$])[\w$]+")
 # What begins an attribute, and its arguments.
@@ -66,10 +68,11 @@ def end_of_arguments(bare: str, at: int) -> int:
     return opening and after_bracket(bare, opening.end() - 1) or at
 
 
-def words_in(text: str) -> Iterator[re.Match[str]]:
-    for stem in STEM.finditer(text):
+def words_in(text: str, with_const: bool) -> Iterator[re.Match[str]]:
+    stems = [*STEM.finditer(text), *(CONST.finditer(text) if with_const else ())]
+    for stem in sorted(stems, key=lambda found: found.start()):
         word = WORD.match(text, stem.start()) or WORD.match(text, stem.start() - len("__"))
-        if word and word[0] in INLINED | UNSEEN:
+        if word and (word[0] in INLINED | UNSEEN or stem.re is CONST):
             yield word
 
 
@@ -79,17 +82,17 @@ def near(text: str, at: int, is_whole: bool) -> tuple[str, int]:
     return blanked(text if is_whole else text[begin : at + NEAR]), begin
 
 
-def without(text: str) -> str:
+def without(text: str, with_const: bool = False) -> str:
     text = without_pragmas(text)
-    return replaced(text, attributes_of(text))
+    return replaced(text, attributes_of(text, with_const))
 
 
-def attributes_of(text: str) -> Iterator[tuple[int, int, str]]:
+def attributes_of(text: str, with_const: bool) -> Iterator[tuple[int, int, str]]:
     files, is_whole, done = Files(text), has_raw_strings(text), 0
-    for found in words_in(text):
+    for found in words_in(text, with_const):
         file, is_system = files.at(found.start())
         is_inlined = found[0] in INLINED
-        if found.start() < done or (is_system if is_inlined else is_own(file)):
+        if found.start() < done or (is_own(file) if found[0] in UNSEEN else is_system):
             continue
         bare, begin = near(text, found.start(), is_whole)
         at = found.start() - begin

@@ -95,6 +95,8 @@ def note_of(kind: str, item: list[str], self_name: str) -> str:
         return f"NOTE_FIELDS({narrow(words)}, copy, result, {self_name});"
     if words[0] == "order":
         return f"NOTE_ORDER({words[2]}, {self_name});"
+    if words[0] == "variable":
+        return f"NOTE_VARIABLE({kind}, {words[1]}, {self_name});"
     if words[0] == "pieces":
         return f"NOTE_PIECES({kind}, {words[1]}, {words[2]}, {item[1]}, {self_name});"
     if len(item) == 4:

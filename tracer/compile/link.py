@@ -74,8 +74,8 @@ class Link:
         hooks = Hooks(self.compiler, self.folder)
         self.refuse(found, hooks)
         own = [*self.stubs(found, hooks), *link_inputs.wrapping(found, hooks.wrapped, self.folder)]
-        detector = [hooks.detector(library), "-ldl", "-lpthread"] if library else []
-        link = [*self.command, "-no-pie", *own, *items, hooks.object, *detector]
+        detector = [hooks.detector(library), "-lpthread"] if library else []
+        link = [*self.command, "-no-pie", *own, *items, hooks.object, *detector, "-ldl"]
         status, said = heard([*link, "-o", self.output], 2)
         sys.stderr.write(said)
         explain(said)

@@ -17,6 +17,7 @@ ASM = re.compile(r"\b(?:asm|__asm__|__asm)\s*(?:\w+\s*)*\(")
 NEAR = 5000
 # What asks for a step. All begin with letters or signs, which are found quickly.
 ATTRIBUTES = re.compile("always_inline|no_sanitize|disable_sanitizer")
+CONST = re.compile(r"const(?:__)?\s*[,)\]]")
 OPENMP = re.compile(r"#[ \t]*pragma[ \t]+omp\b|\[\[\s*(?:using\s+)?omp\b")
 CILK = re.compile("_Cilk_|cilk_(?:spawn|sync|for|scope)")
 ALGORITHMS = re.compile(r'"[^"\n]*/spbags/parallel\.h"')
@@ -114,11 +115,19 @@ def with_reducers(text: str, target: Target) -> Made:
     return (text, reducers.refused(text)) if target.is_clang else (reducers.rewritten(text), [])
 
 
-def without_attributes(text: str, _: Target) -> Made:
-    """no function is put into its caller, or left without hooks"""
+def may_have_attributes(text: str, target: Target) -> bool:
+    return bool(ATTRIBUTES.search(text) or (is_gplusplus(target) and CONST.search(text)))
+
+
+def is_gplusplus(target: Target) -> bool:
+    return bool(target.is_cplusplus and not target.is_clang)
+
+
+def without_attributes(text: str, target: Target) -> Made:
+    """no function is put into its caller, or left without hooks; in C++ by gcc no call is left out"""
     from compile import attributes
 
-    return attributes.without(text), []
+    return attributes.without(text, is_gplusplus(target)), []
 
 
 def with_spawns(text: str, target: Target) -> Made:
@@ -141,7 +150,7 @@ STEPS = [
     Step("strings", lambda text, target: target.is_cplusplus and STRINGS.search(text), without_instances),
     Step("plain lambdas", lambda text, target: target.is_cplusplus and ALGORITHMS.search(text), with_plain_lambdas),
     Step("reducers", lambda text, _: "_Hyperobject" in text, with_reducers),
-    Step("attributes", lambda text, _: ATTRIBUTES.search(text), without_attributes),
+    Step("attributes", may_have_attributes, without_attributes),
     Step("Cilk", lambda text, _: CILK.search(text), with_spawns),
 ]
 

@@ -123,11 +123,12 @@ class LaterRuns:
         return behind is not None and not behind.waits
 
     def find_by_others(self, run: Run) -> bool:
-        """What threads have of their own, by a run in which another thread does what any may do."""
-        self.runner.settings["SPBAGS_OTHERS"] = "1"
+        """What threads have of their own, by a run in which another thread does what any may do. Whether that leaves
+        nothing of the kind."""
+        [self.runner.settings["SPBAGS_OTHERS"]] = run.words("others")
         found = self.find_more(run, "another thread does what any may do")
         del self.runner.settings["SPBAGS_OTHERS"]
-        return found is not None
+        return found is not None and not found.others
 
     def find_pairs(self, found: Found) -> None:
         """The pairs of these races: with stacks where another run had the same accesses, and else as they are known."""

@@ -17,7 +17,7 @@ of the source that has this code.
     unseen CALLS LIBRARY  a function of which nothing is known, whose name is the text
     incomplete            something wasn't seen or modelled
     waits                 the same, but another run may model it, by the file that SPBAGS_WAITED names
-    others                the same, by SPBAGS_OTHERS=1
+    others PHASE          the same, by SPBAGS_OTHERS=PHASE
     seeming               some of the races may be none
     note                  what the report doesn't say
 """

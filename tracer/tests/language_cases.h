@@ -125,6 +125,13 @@ CASE(*AS(int, big) = 6, W(big, 0, 4))
 static __attribute__((pure)) int only_reads(int *at); /* on one line with its read */
 CASE(only_reads(AS(int, big)), R(big, 0, 4)) static int only_reads(int *at) { return *at; }
 static __attribute__((const)) int reads_nothing(int *at) { return *at; } CASE(reads_nothing(AS(int, big)), R(big, 0, 4))
+typedef int (*reader)(int *) __attribute__((const));
+static int reads_by_type(int *at);
+static reader reader_of(int (*read)(int *) __attribute__((const))) { return read; }
+CASE(reader_of(reads_by_type)(AS(int, big)), R(big, 0, 4)) static int reads_by_type(int *at) { return *at; }
+
+/* ---- What is asked and not computed ---- */
+CASE(if (!__builtin_constant_p(*AS(int, big) + 1)) sink = AS(int, big)[1], R(big, 4, 4))
 
 /* ---- Atomic ---- */
 #define ATOMIC_INT AS(_Atomic int, big)

@@ -336,6 +336,98 @@ static void reaches_local(int iterations) {
 static void reaches_local_often(void) { reaches_local(8); }
 static void reaches_local_once(void) { reaches_local(2); }
 
+/* Only some iterations reach it, by a pointer that they read themselves, or that each thread has read before. */
+static void some_reach(int first, int end, bool reads_before) {
+#pragma omp parallel num_threads(2)
+    {
+        int local = 0;
+#pragma omp single
+        of_master = &local;
+        int *before = reads_before ? of_master : NULL;
+#pragma omp for
+        for (int i = 0; i < 8; i++)
+            if (i >= first && i < end)
+                *(reads_before ? before : of_master) += i; /* [some reach] */
+#pragma omp master
+        row[0] = local;
+    }
+}
+
+static void first_reach(void) { some_reach(0, 2, false); }
+static void middle_reach(void) { some_reach(3, 5, true); }
+static void last_reach(void) { some_reach(6, 8, false); }
+
+/* One iteration reaches it by its name, and one by a pointer: that races where the thread that has it does the first. */
+static void named_reach(bool reads_before) {
+#pragma omp parallel num_threads(2)
+    {
+        int local = 0;
+#pragma omp single
+        of_master = &local;
+        int *before = reads_before ? of_master : NULL;
+#pragma omp for
+        for (int i = 0; i < 8; i++)
+            if (i == 1)
+                local = i; /* [by name] */
+            else if (i == 4)
+                *(reads_before ? before : of_master) = i; /* [beside name] */
+    }
+}
+
+static void named_once(void) { named_reach(false); }
+static void named_before(void) { named_reach(true); }
+
+/* Who does an iteration of the first loop has what one of the second reaches: the last thread does both of these. */
+static void last_by_last(void) {
+#pragma omp parallel num_threads(2)
+    {
+        int local = 0;
+#pragma omp for schedule(dynamic)
+        for (int i = 0; i < 8; i++)
+            if (i == 7)
+                of_master = &local;
+#pragma omp for schedule(dynamic)
+        for (int i = 0; i < 8; i++)
+            if (i > 5)
+                ++*of_master; /* [last by last] */
+    }
+}
+
+static void set_all(int *of_four, int to) {
+    for (int i = 0; i < 4; i++)
+        of_four[i] = to;
+}
+
+/* No pointer leads a thread to another one's. */
+static void scratch(void) {
+#pragma omp parallel num_threads(2)
+    {
+        int own[4], *to_own = own;
+#pragma omp barrier
+#pragma omp for
+        for (int i = 0; i < 8; i++) {
+            int of_iteration[4];
+            set_all(to_own, i);
+            set_all(of_iteration, i);
+            counts[i] = own[3] + of_iteration[3];
+        }
+    }
+}
+
+/* The same thread does both single regions, in this run. */
+static void single_by_single(void) {
+#pragma omp parallel num_threads(2)
+    {
+        int local = 0;
+#pragma omp single
+        of_master = &local;
+#pragma omp single nowait
+        ++*of_master; /* [single by single] */
+        local++;      /* [beside single by single] */
+#pragma omp barrier
+    }
+}
+
 /* One thread accesses a variable of the first one in a construct, by a pointer. Then the first thread does so, or all
    others, or the first one behind a barrier. Or the construct's thread accesses its own variable. */
 enum construct { SINGLE, TWO_SINGLES, SECTION, ONE_ITERATION, MASTER, TASK };
@@ -804,6 +896,14 @@ int main(int count, char **words) {
                 {"reaches_local_often", reaches_local_often, true},
                 {"reaches_local_once", reaches_local_once, true},
                 {"single_first", single_first, true},
+                {"first_reach", first_reach, true},
+                {"middle_reach", middle_reach, true},
+                {"last_reach", last_reach, true},
+                {"named_once", named_once, true},
+                {"named_before", named_before, true},
+                {"last_by_last", last_by_last, true},
+                {"scratch", scratch, true},
+                {"single_by_single", single_by_single, true},
                 {"single_others", single_others, true},
                 {"single_before", single_before, true},
                 {"single_own", single_own, true},

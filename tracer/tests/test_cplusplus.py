@@ -73,6 +73,18 @@ int main() {
     cilk_sync;
 }
 """
+# The compiler might leave out the call.
+BY_POINTER = """#include <cilk/cilk.h>
+static int asked;
+static int ask(int about) { return asked = about; }
+typedef int (*asking)(int) __attribute__((const));
+static void ask_by(asking one) { one(1); }
+int main() {
+    cilk_spawn ask_by((asking)ask);
+    asked = 2;
+    cilk_sync;
+}
+"""
 # Whoever comes first makes the object of its thread, beside which the compiler keeps whether it is made.
 OWN_OBJECT = """#include <cilk/cilk.h>
 struct Counter {
@@ -225,6 +237,11 @@ class CilkTest(CPlusPlusTest):
         self.build("narrowed", "narrowed.cpp")
         self.reports(0, "race:^std::ctype<char>::narrow( suppresses 1 race of 1 pair", "--unseen-ok", "*", "--",
                      "./narrowed")
+
+    def test_by_pointer(self):
+        self.write("by_pointer.cpp", BY_POINTER)
+        self.succeeds(SPBAGS_CPLUSPLUS, LEVEL, "-w", "-o", "by_pointer", "by_pointer.cpp")
+        self.assertEqual(["1 3 8"], self.races_in("by_pointer.cpp", "./by_pointer"))
 
     def test_own_object(self):
         self.write("own.cpp", OWN_OBJECT)

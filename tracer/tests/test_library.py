@@ -115,6 +115,55 @@ int main(int count, char **words) {
 """
 
 
+# Variables that functions of the library set, and what each thread has of its own. With QUIET nothing uses these directly.
+VARIABLES = """
+#include <cilk/cilk.h>
+#include <error.h>
+#include <math.h>
+#include <pthread.h>
+#include <stdlib.h>
+#include <string.h>
+#include <time.h>
+#include <unistd.h>
+static pthread_key_t key;
+static double (*volatile gamma_of)(double) = lgamma;
+static int is(const char *word, const char *other) { return strcmp(word, other) == 0; }
+static void set(const char *word) {
+    time_t now = 0;
+    struct tm day = {.tm_mday = 1};
+    if (is(word, "environ")) setenv("A", "b", 1);
+    if (is(word, "getenv")) getenv("A");
+    if (is(word, "tzname")) tzset();
+    if (is(word, "timezone")) mktime(&day);
+    if (is(word, "daylight")) localtime_r(&now, &day);
+    if (is(word, "error_message_count")) error(0, 0, "one");
+    if (is(word, "signgam")) gamma_of(.5);
+    if (is(word, "key")) pthread_setspecific(key, &key);
+}
+#ifdef QUIET
+#define ask set
+#else
+static long got;
+static void ask(const char *word) {
+    if (is(word, "environ")) got = environ[0] != NULL;
+    if (is(word, "getenv")) environ++;
+    if (is(word, "tzname")) got = *tzname[0];
+    if (is(word, "timezone")) got = timezone;
+    if (is(word, "daylight")) got = daylight;
+    if (is(word, "error_message_count")) got = error_message_count;
+    if (is(word, "signgam")) got = signgam;
+    if (is(word, "key")) got = pthread_getspecific(key) != NULL;
+}
+#endif
+int main(int count, char **words) {
+    pthread_key_create(&key, NULL);
+    cilk_spawn set(words[1]);
+    ask(words[1]);
+    cilk_sync;
+}
+"""
+
+
 class ListsTest(TracerTest):
     def test_environment(self):
         self.write("environment.c", ENVIRONMENT)
@@ -124,6 +173,17 @@ class ListsTest(TracerTest):
                 self.reports(1, "", "--", "./environment", word)
         with self.subTest("the locale"):
             self.reports(3, "setlocale is called where something else may run", "--", "./environment", "printf")
+
+    def test_variables(self):
+        """A function sets them unseen in a program that doesn't use them itself."""
+        self.write("variables.c", VARIABLES)
+        quiet = ["getenv", "tzname", "timezone", "daylight", "error_message_count"]
+        for options, words, status in ((["-D_GNU_SOURCE"], [*quiet, "environ", "signgam", "key"], 1),
+                                       (["-D_GNU_SOURCE", "-DQUIET"], quiet, 0)):
+            self.succeeds(SPBAGS_CC, LEVEL, "-w", *options, "-o", "variables", "variables.c", "-lm")
+            for word in words:
+                with self.subTest(word, options=options):
+                    self.reports(status, "", "--", "./variables", word)
 
     def test_shared(self):
         self.write("lists.c", LISTS)

@@ -1,5 +1,6 @@
 /* Functions whose accesses no row of library.table says. */
 #include "base/doing.h"
+#include "base/openmp.h"
 #include "records/guards.h"
 #include "library/library.h"
 #include "library/streams.h"
@@ -290,6 +291,32 @@ BY_HAND(void *, mremap, void *at, size_t before, size_t size, int flags, ...) {
     return result;
 }
 
+/* Each thread has a value of its own for a key. A child may run on any, so it depends on that which one it gets; a team's
+   members are threads. */
+static int library_state_of_key[PTHREAD_KEYS_MAX];
+
+static void note_key(bool writes, unsigned key, struct caller by) {
+    if (!doing.tracing || openmp_is_here || key >= PTHREAD_KEYS_MAX)
+        return;
+    const uintptr_t at = (uintptr_t)&library_state_of_key[key];
+    guards_enter(at, "the thread whose value it is");
+    accesses_note_by(writes, at, sizeof(int), by);
+    guards_leave(at);
+}
+
+#define KEYS(GET, SET, KEY, CONST) \
+    BY_HAND(void *, GET, KEY key) { \
+        note_key(false, key, BY(__wrap_##GET)); \
+        return __real_##GET(key); \
+    } \
+    BY_HAND(int, SET, KEY key, CONST void *value) { \
+        note_key(true, key, BY(__wrap_##SET)); \
+        return __real_##SET(key, value); \
+    }
+KEYS(pthread_getspecific, pthread_setspecific, pthread_key_t, const)
+KEYS(tss_get, tss_set, tss_t, )
+
+extern unsigned error_message_count;
 /* The library has no form of it that takes a list. */
 __attribute__((weak)) void __real_error(int status, int number, const char *format, ...);
 void __wrap_error(int status, int number, const char *format, ...) {
@@ -306,4 +333,6 @@ void __wrap_error(int status, int number, const char *format, ...) {
     va_end(copy);
     va_end(list);
     __real_error(status, number, "%s", text ? text : format);
+    if (doing.tracing)
+        NOTE_VARIABLE(WRITE, error_message_count, __wrap_error);
 }

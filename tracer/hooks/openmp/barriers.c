@@ -5,6 +5,7 @@
 #include "openmp/loops.h"
 #include "openmp/members.h"
 #include "openmp/notes.h"
+#include "openmp/reached.h"
 
 void barriers_join_team(uintptr_t code) {
     if (scopes_holder()->kind == SCOPE_MEMBER) {
@@ -35,7 +36,7 @@ void barriers_wait(uintptr_t code) {
 bool barriers_leaves_to_others(const struct scope *thread) {
     bool asks = thread->team && thread->team->asks;
     if (!team_is_last(thread))
-        return (thread->master != 0 || asks) != notes.others_do;
+        return (thread->master != 0 || asks) != notes_others_do();
     if (thread->master != 0)
         notes_keep(&notes.master_does_more, thread->master);
     if (asks)
@@ -48,7 +49,7 @@ bool barriers_does_single(void) {
     if (thread->kind != SCOPE_MEMBER)
         return !barriers_leaves_to_others(thread);
     bool is_left = thread->singles_met++ == thread->team->singles;
-    bool does = is_left && !barriers_leaves_to_others(thread);
+    bool does = is_left && !barriers_leaves_to_others(thread) && !reached_leaves(thread);
     thread->team->singles += does;
     return does;
 }

@@ -19,8 +19,10 @@ static void name_part(uintptr_t code) {
     part->code = code;
 }
 
-static void begin_parallel_body(uintptr_t code) {
+static void begin_parallel_body(uintptr_t stack_pointer, uintptr_t code) {
     struct scope *thread = scopes.newest;
+    if (thread->kind == SCOPE_MEMBER)
+        thread->member->body = stack_pointer;
     if (doing.tracing)
         name_part(code);
     *(thread->kind == SCOPE_MEMBER ? &thread->team->code : &thread->code) = code;
@@ -102,7 +104,7 @@ int __spbags_goes_on(void) {
     bool begins = !body->begun;
     body->begun = true;
     if (body->kind == BODY_PARALLEL && begins)
-        begin_parallel_body(CODE);
+        begin_parallel_body(STACK_POINTER, CODE);
     else if (body->kind == BODY_PARALLEL)
         end_parallel_body();
     else if (body->kind == BODY_SIMD)

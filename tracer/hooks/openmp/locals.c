@@ -5,26 +5,39 @@
 #include "openmp/children.h"
 #include "openmp/notes.h"
 #include "openmp/parts.h"
+#include "openmp/reached.h"
 #include "program/locations.h"
 #include "records/byte_granular.h"
 
 /* A granule that a share has accessed: its usual number, or 0; which share; which of its bytes were read and written, a
-   bit for each, by which code; in which strands last; and whether by a task. */
+   bit for each, by which code; in which strands last; whether by a task; and whether its thread had accessed it before
+   in this phase. */
 struct local {
     uintptr_t address;
     uint64_t number, share;
     unsigned read, written;
     uintptr_t codes[GRANULE_MOST_BYTES];
     uint64_t read_in, written_in;
-    bool by_task;
+    bool by_task, again;
 };
 
-/* Of each granule of the stacks: the newest phase in which a share accessed it that is the only one of its kind, or that
-   left a task which did; whether a task did; where it stands in the list; and after which event it was noted once more,
-   with which number, and which of its bytes as read and as written. */
-struct place {
+/* Bytes of a granule that were accessed in a phase of the team. */
+struct touched {
     uint64_t phase;
-    bool has_task;
+    unsigned read, written;
+};
+
+/* Of each granule of the stacks: the newest phase in which a share accessed it, and whether one of that wrote; the
+   same of a share that is the only one of its kind, or whose thread is reached, or that left a task which did;
+   whether a task did; where it stands in the list; and after which event it was noted once more, with which number,
+   and which of its bytes as read and as written. Then what shares of its own thread did there; and of a granule of
+   the team's first member what those of all members did in their own granules of this place, what others did by
+   pointers in one of these, and which that was. */
+struct place {
+    struct touched by_itself, by_all, by_others;
+    struct place *owner;
+    uint64_t any_phase, phase;
+    bool any_writes, has_task;
     unsigned read, written;
     size_t at;
     uint64_t event, number;
@@ -35,6 +48,8 @@ static struct {
     size_t count;
     struct place *places;
     uint64_t phases;
+    /* A share goes out that has accessed nothing of the kind. */
+    bool has_none;
 } locals;
 
 static struct place *place_of(const uint32_t *mark) { return &locals.places[mark - marks_at(stacks_first)]; }
@@ -99,33 +114,110 @@ static bool is_again(struct local *local, bool writes) {
     return false;
 }
 
+/* Another thread may do the same, where a pointer is known to lead it there. */
+static void note_reached(uintptr_t code) {
+    notes_keep_phase(&notes.other_may, code);
+    notes_keep_phase(&notes.reached_may, code);
+}
+
 /* The thread accesses again what it has accessed in this phase, maybe in a share. */
-static void note_touched(const struct scope *thread, bool is_one, const struct place *place, uintptr_t code) {
+static void note_touched(const struct scope *thread, bool is_one, bool writes, const struct place *place,
+                         uintptr_t code) {
     bool was_in_share = place->phase == thread->phase;
     if (is_one || was_in_share)
-        notes_keep(&notes.other_may, code);
+        notes_keep_phase(&notes.other_may, code);
+    if (was_in_share && (writes || place->any_writes) && reached_has(thread, STACK_POINTER))
+        note_reached(code);
     if (was_in_share && place->has_task)
         notes_keep(&notes.beside_task, code);
+}
+
+static void touch(struct touched *touched, bool writes, uintptr_t address) {
+    const unsigned bytes = all_bytes() & ~granules_bytes_left_out(address);
+    if (touched->phase != scopes.phases)
+        *touched = (struct touched){.phase = scopes.phases};
+    *(writes ? &touched->written : &touched->read) |= bytes;
+}
+
+/* The bytes that race if these are of two threads. */
+static unsigned racing(const struct touched *one, const struct touched *other) {
+    const bool is_now = one->phase == scopes.phases && other->phase == scopes.phases;
+    return is_now ? (one->written & (other->read | other->written)) | (one->read & other->written) : 0;
+}
+
+/* That of the team's first member, from whose stack all others' variables are equally far. */
+static struct place *common_place(const struct team *team, const struct member *of, uintptr_t address) {
+    const uintptr_t first = address - of->body + team->members->body;
+    return of->body != 0 && stacks_have(first) ? place_of(marks_at(first)) : NULL;
+}
+
+/* Shares of other threads than the one with the variable did what this one may do in another run, beside what others do
+   there by a pointer. */
+static void note_places(const struct place *place, uintptr_t code) {
+    if (place->owner &&
+        (racing(&place->by_all, &place->by_others) & ~racing(&place->owner->by_itself, &place->by_others)) != 0)
+        note_reached(code);
+}
+
+static void note_itself(const struct scope *thread, bool writes, uintptr_t address, const uint32_t *mark,
+                        uintptr_t code) {
+    struct place *place = common_place(thread->team, thread->member, address);
+    if (!place)
+        return;
+    touch(&place_of(mark)->by_itself, writes, address);
+    touch(&place->by_all, writes, address);
+    note_places(place, code);
+}
+
+static void note_other_of(const struct team *team, bool writes, uintptr_t address, uintptr_t code) {
+    const struct member *of = team->members;
+    while (of < team->members + team->size && !reached_lies_in(of, address))
+        of++;
+    struct place *place = of < team->members + team->size ? common_place(team, of, address) : NULL;
+    if (!place)
+        return;
+    touch(&place->by_others, writes, address);
+    place->owner = place_of(marks_at(address));
+    note_places(place, code);
+}
+
+/* Maybe a variable of a member that doesn't run. */
+static void note_other(bool writes, uintptr_t address, uintptr_t code) {
+    for (const struct scope *at = scopes.newest; at > scopes.first; at--)
+        if (at->kind == SCOPE_MEMBER)
+            note_other_of(at->team, writes, address, code);
 }
 
 static bool is_in_list(const struct scope *share, uintptr_t address, size_t at) {
     return at < locals.count && locals.list[at].address == address && locals.list[at].share == share->number;
 }
 
+/* Whether the thread has accessed the granule before in this phase. */
+static bool was_touched(const struct scope *thread, uint32_t mark, struct place *place) {
+    const bool by_itself = mark >= thread->phase_mark, was_in_share = place->any_phase == thread->phase;
+    if (!was_in_share)
+        place->any_writes = by_itself && mark % 2 == 1;
+    place->any_phase = thread->phase;
+    return by_itself || was_in_share;
+}
+
 /* The share accesses a granule for the first time, which has another number there. */
-static void begin_local(const struct scope *share, const struct scope *thread, uintptr_t address, uint32_t *mark,
-                        uintptr_t code) {
+static void begin_local(const struct scope *share, const struct scope *thread, bool writes, uintptr_t address,
+                        uint32_t *mark, uintptr_t code) {
+    struct place *place = place_of(mark);
     if (*mark != MARK_UNTOUCHED && thread->phase != 0)
-        note_touched(thread, share->is_one && *mark >= thread->phase_mark, place_of(mark), code);
-    if (is_in_list(share, address, place_of(mark)->at)) {
-        struct local *local = &locals.list[place_of(mark)->at];
+        note_touched(thread, share->is_one && *mark >= thread->phase_mark, writes, place, code);
+    if (is_in_list(share, address, place->at)) {
+        struct local *local = &locals.list[place->at];
         local->read_in = local->written_in = 0;
         *mark = MARK_UNTOUCHED;
         return;
     }
-    place_of(mark)->at = locals.count;
-    locals.list[locals.count++] = (struct local){
-        .address = address, .number = *mark == MARK_UNTOUCHED ? 0 : *marks_number(mark), .share = share->number};
+    place->at = locals.count;
+    locals.list[locals.count++] = (struct local){.address = address,
+                                                 .number = *mark == MARK_UNTOUCHED ? 0 : *marks_number(mark),
+                                                 .share = share->number,
+                                                 .again = was_touched(thread, *mark, place)};
     *mark = MARK_UNTOUCHED;
 }
 
@@ -133,7 +225,7 @@ static bool note_in_share(const struct scope *share, const struct scope *thread,
                           uintptr_t address, uint32_t *mark, uintptr_t code) {
     recent_begin();
     if (*mark == MARK_UNTOUCHED || *marks_number(mark) <= share->last_number)
-        begin_local(share, thread, address, mark, code);
+        begin_local(share, thread, writes, address, mark, code);
     struct local *local = &locals.list[place_of(mark)->at];
     local->by_task |= by_task;
     add_bytes(local, writes, all_bytes() & ~granules_bytes_left_out(address), code);
@@ -160,13 +252,17 @@ static const struct scope *scope_of(uintptr_t address, bool *by_task) {
 
 bool openmp_note_stack(bool writes, uintptr_t address, uint32_t *mark, uintptr_t code) {
     bool by_task = false;
-    if (stacks_find(address) != stacks_running)
+    if (stacks_find(address) != stacks_running) {
         openmp_note_other(address, code);
-    const struct scope *at = scope_of(address, &by_task);
+        note_other(writes, address, code);
+    }
+    const struct scope *at = scope_of(address, &by_task), *thread = thread_of(at);
+    if (at->kind == SCOPE_SHARE && thread->kind == SCOPE_MEMBER)
+        note_itself(thread, writes, address, mark, code);
     if (at->kind == SCOPE_SHARE)
-        return note_in_share(at, thread_of(at), by_task, writes, address, mark, code);
+        return note_in_share(at, thread, by_task, writes, address, mark, code);
     if (at > scopes.first && *mark != MARK_UNTOUCHED)
-        note_touched(at, false, place_of(mark), code);
+        note_touched(at, false, writes, place_of(mark), code);
     return false;
 }
 
@@ -175,6 +271,14 @@ void openmp_note_part(uintptr_t granule) {
     bool by_task = false;
     if (scope_of(granule, &by_task)->kind == SCOPE_SHARE)
         *marks_at(granule) = MARK_TOUCHED;
+}
+
+bool openmp_seeks_in_blocks(void) {
+    const struct scope *at = scopes.newest;
+    while (at->kind != SCOPE_SHARE && !scopes_is_thread(at))
+        at--;
+    reached_begin();
+    return at->kind == SCOPE_SHARE ? locals.count > at->locals : !locals.has_none;
 }
 
 /* ---- The end of a share ---- */
@@ -221,9 +325,11 @@ static void note_bytes(const struct local *local, uint32_t *mark, unsigned bytes
     }
 }
 
+static unsigned noted_bytes(const struct local *local) { return local->written != 0 ? local->written : local->read; }
+
 /* As one access, or where its bytes are told apart as one of each, what was written first. */
 static void note_granule(const struct local *local, uint32_t *mark) {
-    const unsigned noted = local->written != 0 ? local->written : local->read;
+    const unsigned noted = noted_bytes(local);
     const uint64_t location = locations_of_stack(local->address, mark);
     *mark = MARK_TOUCHED;
     if (byte_granular_has(location)) {
@@ -256,8 +362,11 @@ static void note_again(const struct local *local) {
 static bool matters(const struct scope *share, const struct scope *thread, const struct local *local) {
     uint32_t *mark = marks_at(local->address);
     struct place *place = place_of(mark);
-    bool has_task = local->by_task && scopes_unsynced(share) > 0;
-    if (!share->is_one && !has_task)
+    bool has_task = local->by_task && scopes_unsynced(share) > 0, is_reached = reached_has(thread, share->own_first);
+    place->any_writes |= local->written != 0;
+    if (is_reached && local->again && place->any_writes)
+        note_reached(local->codes[__builtin_ctz(noted_bytes(local))]);
+    if (!share->is_one && !has_task && !is_reached)
         return false;
     place->has_task = has_task || (place->has_task && place->phase == thread->phase);
     place->phase = thread->phase;
@@ -294,7 +403,9 @@ uintptr_t locals_end_share(uintptr_t code) {
     const struct scope share = *scopes.newest;
     if (doing.tracing)
         take_back_all(&share);
+    locals.has_none = locals.count == share.locals;
     children_close(code);
+    locals.has_none = false;
     if (!doing.tracing)
         return share.own_first;
     if (scopes.newest->kind == SCOPE_SHARE)

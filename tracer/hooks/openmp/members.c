@@ -1,5 +1,6 @@
 #include "openmp/members.h"
 
+#include "base/openmp.h"
 #include "records/look.h"
 #include "openmp/children.h"
 #include "openmp/locals.h"
@@ -58,6 +59,7 @@ static void join_members(struct team *team, uintptr_t code) {
     if (doing.looking && doing.tracing)
         look_at_wait(team->frame, code, false);
     children_join_from(scopes.newest, code);
+    scopes.phases++;
     team->singles = 0;
     team->masters = 0;
     loops_end_from(team->first_loop);
@@ -167,7 +169,10 @@ void members_do_region(struct team *team) {
     frames_note_part((struct frame_part){.of = look_region_name, .is_hidden = !team->region.whole});
     uint32_t node = doing.looking ? look_node_of(look_top()) : FRAME_NONE;
     unsigned used = turns.stacks_used;
+    const bool sought = openmp_seeks;
     const struct scope *around = scopes.newest;
+    openmp_seeks |= !team->region.whole;
+    scopes.phases++;
     for (unsigned number = 0; number < team->size; number++)
         make_member(team, number, around, node);
     run_member(team->members, frames_top->end - 1);
@@ -177,4 +182,5 @@ void members_do_region(struct team *team) {
     if (next != team->members)
         turns_switch_to(next->stack);
     turns.stacks_used = used;
+    openmp_seeks = sought;
 }

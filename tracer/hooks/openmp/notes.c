@@ -71,12 +71,14 @@ static void tell_others(void) {
         tell_incomplete("%s: this accesses what another thread has of its own, by threadprivate or thread_local. What "
                         "that thread does there isn't recorded: races with it aren't seen",
                         place_of(notes.others_own));
-    if (notes.other_may != 0 && !notes.others_do)
-        tell_unmodelled("others",
+    const bool may_others = notes.others_from == 0 && notes.reached_may.code == 0;
+    const struct note_of_phase *may = may_others ? &notes.other_may : &notes.reached_may;
+    if (may->code != 0)
+        tell_unmodelled(tell_numbered("others", may->phase).text,
                         "%s: this accesses a variable of the parallel region that its thread also accesses in a single "
-                        "region, a section or a loop of one iteration. Where another thread does that, by a pointer, "
-                        "races of both aren't seen",
-                        place_of(notes.other_may));
+                        "region, a section or an iteration. Where another thread does that, by a pointer, races of "
+                        "both aren't seen",
+                        place_of(may->code));
     if (notes.beside_task != 0)
         tell_incomplete("%s: this accesses a variable of the parallel region that a task accesses too, which its "
                         "thread has made in a loop, a section or a single region: races of both aren't seen",

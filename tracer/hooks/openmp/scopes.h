@@ -78,6 +78,8 @@ extern struct scopes {
     uint64_t begun;
     /* How many tasks have been made, and how often a thread has begun what it does up to a barrier. */
     uint64_t events;
+    /* How often a team with several members has begun, or has come to a barrier. */
+    uint64_t phases;
 } scopes;
 
 /* The program's beginning. */

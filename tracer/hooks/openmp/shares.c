@@ -5,6 +5,7 @@
 #include "openmp/locals.h"
 #include "openmp/notes.h"
 #include "openmp/parts.h"
+#include "openmp/reached.h"
 #include "openmp/silence.h"
 #include "shadow/own.h"
 #include "shadow/stacks.h"
@@ -23,21 +24,15 @@ static bool is_shared_out(const struct scope *thread) {
            (!thread->team->region.whole || own_has_variables());
 }
 
-/* Whether a later member of the team may do a part too: one that does no master region. */
-static bool has_later(const struct scope *thread) {
-    const uint64_t all = UINT64_MAX >> (STACK_MOST - thread->size), now = (uint64_t)2 << thread->thread;
-    return (all & -now & ~thread->team->masters) != 0;
-}
-
 uint64_t shares_left(const struct scope *thread) {
     const struct loop *loop = thread->loop;
     uint64_t left = loop->count - loop->begun;
     if (loop->in_blocks)
         return left_of_block(thread, left);
-    if (left > 0 && barriers_leaves_to_others(thread))
+    if (left > 0 && (barriers_leaves_to_others(thread) || (!loop->ordered && reached_leaves(thread))))
         return 0;
     /* The first does most of it: two iterations of another one may race with each other. */
-    uint64_t kept = is_shared_out(thread) && has_later(thread) ? least(loop->count / 2, 2) : 0;
+    uint64_t kept = is_shared_out(thread) && team_has_later(thread) ? least(loop->count / 2, 2) : 0;
     return left - least(kept, left);
 }
 
@@ -141,8 +136,10 @@ bool shares_take(uint64_t *first, uint64_t *end, uintptr_t stack_pointer, uintpt
     struct loop *loop = thread->loop;
     uint64_t size = next_size(thread);
     bool goes_on = loop->in_blocks && size > 0;
-    if (thread->shares > 0 && !goes_on && scopes.newest->kind == SCOPE_SHARE)
+    if (thread->shares > 0 && !goes_on && scopes.newest->kind == SCOPE_SHARE) {
         end_share(thread, code);
+        size = next_size(thread);
+    }
     if (size == 0)
         return false;
     *first = loop->start + loop->begun * loop->step;

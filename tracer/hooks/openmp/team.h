@@ -23,6 +23,9 @@ struct member {
     struct frame *base;
     uint32_t depth;
     bool has_ended;
+    /* The highest address in its stack of a variable that others may know a pointer to; and the stack pointer where the
+       body begins, from which each member's variables are equally far. */
+    uintptr_t reached, body;
 };
 
 struct team {
@@ -39,6 +42,8 @@ struct team {
     struct loop *first_loop;
     uint32_t singles;
     uint64_t masters;
+    /* The same of those that have a variable that others may know a pointer to. */
+    uint64_t reached;
     /* A member has asked for its number. */
     bool asks;
     /* What a single region hands to the other members. */
@@ -46,5 +51,12 @@ struct team {
 };
 
 static inline bool team_is_last(const struct scope *thread) { return thread->thread + 1 == (int)thread->size; }
+
+/* Whether a later member of the team may do a part of a loop too: one that does no master region, and isn't reached. */
+static inline bool team_has_later(const struct scope *thread) {
+    const struct team *team = thread->team;
+    const uint64_t all = UINT64_MAX >> (64 - thread->size), later = -((uint64_t)2 << thread->thread);
+    return (all & later & ~team->masters & ~team->reached) != 0;
+}
 
 #endif

@@ -4,6 +4,7 @@
 #ifndef SPBAGS_PROGRAM_LOCATIONS_H
 #define SPBAGS_PROGRAM_LOCATIONS_H
 
+#include "base/openmp.h"
 #include "records/look.h"
 #include "records/records.h"
 #include "records/views.h"
@@ -115,6 +116,8 @@ ALWAYS_INLINE uint64_t locations_quick(bool writes, uintptr_t address, uint32_t 
 ALWAYS_INLINE void locations_note_stack_granule(bool writes, uintptr_t address, uint32_t *mark, unsigned shift,
                                                 uintptr_t code) {
     uint64_t site;
+    if (__builtin_expect(openmp_seeks, 0) && !writes)
+        openmp_seek_in_stack(address);
     if (__builtin_expect(!locations_is_noted_quickly(address, mark) || !records_find_access_bits(code, &site), 0)) {
         locations_note_stack(writes, address, mark, shift, code);
         return;

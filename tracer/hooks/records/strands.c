@@ -1,5 +1,6 @@
 #include "records/strands.h"
 
+#include "base/openmp.h"
 #include "records/lines.h"
 #include "records/look.h"
 #include "records/places.h"
@@ -293,8 +294,14 @@ static void put_block(const struct block_touched *touched) {
     put_rest_of_block();
 }
 
+static void seek_in(const struct block_touched *touched) {
+    if (touched->block && touched->address != 0)
+        openmp_seek_in_block(touched->address, blocks_granules_with(touched->done, BLOCK_READ));
+}
+
 static void put_blocks(void) {
     static size_t at;
+    const bool seeks = openmp_seeks && openmp_seeks_in_blocks();
     frames_leave_short_way();
     blocks_leave_quick_sites();
     if (going_out.block)
@@ -302,6 +309,8 @@ static void put_blocks(void) {
     for (; at < strands_part.used; at++) {
         __builtin_prefetch(strands_part.list[at + STRAND_AHEAD].done);
         __builtin_prefetch(strands_part.list[at + STRAND_AHEAD].block);
+        if (seeks)
+            seek_in(&strands_part.list[at]);
         put_block(&strands_part.list[at]);
     }
     at = strands_part.used = 0;

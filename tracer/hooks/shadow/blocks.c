@@ -47,5 +47,5 @@ struct block_touched blocks_dead(size_t span, size_t number) {
                     blocks_region_granules() + at;
     uint64_t location =
         2 * ((granules_name_of_dead(span) >> granules_shift) + (number & ~(size_t)(BLOCK_GRANULES - 1)));
-    return (struct block_touched){blocks_of_row(row, granules_span_first(span), done), done, location};
+    return (struct block_touched){blocks_of_row(row, granules_span_first(span), done), done, location, 0};
 }

@@ -79,11 +79,13 @@ static inline uint64_t blocks_remembered(const uint8_t *done) {
     return ((uintptr_t)done & ~(uintptr_t)(BLOCK_GRANULES - 1)) | blocks_period;
 }
 
-/* A block with its bytes, and the location of its first granule. */
+/* A block with its bytes, the location of its first granule, and the address of that, or 0 of a heap block that has
+   died. */
 struct block_touched {
     struct block *block;
     uint8_t *done;
     uint64_t location;
+    uintptr_t address;
 };
 
 /* The block of these bytes, in the row of this region's address. */
@@ -101,8 +103,8 @@ static inline struct block_touched blocks_at(uintptr_t address) {
     intptr_t row = blocks_row_of(address);
     uint8_t *done =
         (uint8_t *)((uintptr_t)(row + (intptr_t)(address >> granules_shift)) & ~(uintptr_t)(BLOCK_GRANULES - 1));
-    return (struct block_touched){blocks_of_row(row, address, done), done,
-                                  blocks_location(address & ~(blocks_size() - 1))};
+    const uintptr_t first = address & ~(blocks_size() - 1);
+    return (struct block_touched){blocks_of_row(row, address, done), done, blocks_location(first), first};
 }
 
 /* The block of this heap block of a span, where that has died in the strand of its birth. */

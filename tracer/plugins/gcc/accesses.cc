@@ -163,6 +163,22 @@ void accesses::note_reference(gimple *statement, tree reference, bool writes, wa
         add(statement, address_of(reference), size, get_object_alignment(reference), writes, made, behind);
 }
 
+/* Whether a value serves only for the question of whether it is a constant: the program doesn't compute that. */
+static bool is_only_asked(tree value) {
+    use_operand_p use;
+    imm_use_iterator uses;
+    bool is_asked = false;
+    FOR_EACH_IMM_USE_FAST(use, uses, value) {
+        gimple *by = USE_STMT(use);
+        bool is_computed = is_gimple_assign(by) && TREE_CODE(gimple_assign_lhs(by)) == SSA_NAME;
+        if (!is_gimple_debug(by) && !gimple_call_builtin_p(by, BUILT_IN_CONSTANT_P) &&
+            !(is_computed && is_only_asked(gimple_assign_lhs(by))))
+            return false;
+        is_asked |= !is_gimple_debug(by);
+    }
+    return is_asked;
+}
+
 void accesses::find_in(gimple *statement) {
     if (is_gimple_debug(statement) || gimple_clobber_p(statement))
         return;
@@ -175,7 +191,10 @@ void accesses::find_in(gimple *statement) {
         if (value && TREE_CODE(value) != RESULT_DECL)
             note_reference(statement, value, false);
     } else if (is_gimple_assign(statement)) {
-        if (gimple_assign_single_p(statement))
+        tree result = gimple_assign_lhs(statement);
+        bool is_needless =
+            TREE_CODE(result) == SSA_NAME && !gimple_has_volatile_ops(statement) && is_only_asked(result);
+        if (gimple_assign_single_p(statement) && !is_needless)
             note_reference(statement, gimple_assign_rhs1(statement), false);
         if (gimple_store_p(statement))
             note_reference(statement, gimple_assign_lhs(statement), true);

@@ -188,7 +188,16 @@ static bool tells_of_assembly(gcall *call) {
     return callee && DECL_NAME(callee) && id_equal(DECL_NAME(callee), "__spbags_asm_outside");
 }
 
+/* A function that is declared to do nothing but compute calls hooks too. */
+static void forget_type(gcall *call) {
+    if (gimple_call_internal_p(call) || gimple_call_fndecl(call) || !TYPE_READONLY(gimple_call_fntype(call)))
+        return;
+    gimple_call_set_fntype(call, TYPE_MAIN_VARIANT(gimple_call_fntype(call)));
+    update_stmt(call);
+}
+
 void find_in_call(accesses &all, gcall *call) {
+    forget_type(call);
     if (gimple_call_internal_p(call)) {
         if (gimple_call_internal_fn(call) == IFN_VA_ARG)
             find_next_argument(all, call);

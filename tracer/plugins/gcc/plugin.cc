@@ -30,6 +30,34 @@ static void read_declaration(void *given, void *) {
     TREE_READONLY(decl) = 0;
 }
 
+static bool is_by_pointer(tree call) {
+    tree pointer = CALL_EXPR_FN(call) ? TREE_TYPE(CALL_EXPR_FN(call)) : NULL_TREE;
+    return pointer && POINTER_TYPE_P(pointer) && TYPE_READONLY(TREE_TYPE(pointer)) && !get_callee_fndecl(call);
+}
+
+/* The same where the call is by a pointer of such a type. Whether one is in this expression, which is needed then. */
+static bool read_calls(tree expression, std::set<tree> *seen) {
+    bool found = false;
+    if (!expression || !(EXPR_P(expression) || TREE_CODE(expression) == STATEMENT_LIST) ||
+        !seen->insert(expression).second)
+        return false;
+    if (TREE_CODE(expression) == STATEMENT_LIST)
+        for (tree_stmt_iterator at = tsi_start(expression); !tsi_end_p(at); tsi_next(&at))
+            found |= read_calls(tsi_stmt(at), seen);
+    else
+        for (int number = 0; number < TREE_OPERAND_LENGTH(expression); number++)
+            found |= read_calls(TREE_OPERAND(expression, number), seen);
+    found |= TREE_CODE(expression) == CALL_EXPR && is_by_pointer(expression);
+    if (found)
+        TREE_SIDE_EFFECTS(expression) = 1;
+    return found;
+}
+
+static void read_body(void *given, void *) {
+    std::set<tree> seen;
+    read_calls(DECL_SAVED_TREE(static_cast<tree>(given)), &seen);
+}
+
 static unsigned put_reducers(function *fun) {
     reducers_put(fun);
     return 0;
@@ -119,6 +147,7 @@ int plugin_init(plugin_name_args *given, plugin_gcc_version *version) {
     reducers_begin(given->base_name);
     register_callback(given->base_name, PLUGIN_FINISH_DECL, read_declaration, nullptr);
     register_callback(given->base_name, PLUGIN_FINISH_PARSE_FUNCTION, read_declaration, nullptr);
+    register_callback(given->base_name, PLUGIN_PRE_GENERICIZE, read_body, nullptr);
     for (const place &where : places) {
         register_pass_info made = {new pass(where), where.beside, where.instance, where.where};
         register_callback(given->base_name, PLUGIN_PASS_MANAGER_SETUP, nullptr, &made);

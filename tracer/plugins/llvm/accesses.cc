@@ -41,9 +41,21 @@ void accesses::note_compare(Instruction *by, Value *address, Value *expected, Va
 
 void accesses::note_unseen(Instruction *by) { call_hook(by, "__spbags_unseen", {place_of(*by)}); }
 
+/* Whether a value serves only for the question of whether it is a constant: the program doesn't compute that. */
+static bool is_only_asked(const Value *value) {
+    for (const User *by : value->users()) {
+        auto *call = dyn_cast<IntrinsicInst>(by);
+        bool is_question = call && call->getIntrinsicID() == Intrinsic::is_constant;
+        if (!is_question && (isa<PHINode>(by) || isa<CallBase>(by) || !is_only_asked(by)))
+            return false;
+    }
+    return !value->use_empty();
+}
+
 void accesses::find_in(Instruction *instruction) {
     if (auto *load = dyn_cast<LoadInst>(instruction)) {
-        note(load, load->getPointerOperand(), load->getType(), false, load->isAtomic() ? ATOMICALLY : PLAINLY);
+        if (!load->isSimple() || !is_only_asked(load))
+            note(load, load->getPointerOperand(), load->getType(), false, load->isAtomic() ? ATOMICALLY : PLAINLY);
     } else if (auto *store = dyn_cast<StoreInst>(instruction)) {
         note(store, store->getPointerOperand(), store->getValueOperand()->getType(), true,
              store->isAtomic() ? ATOMICALLY : PLAINLY);

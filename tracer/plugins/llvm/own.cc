@@ -9,6 +9,12 @@ static bool is_about_life(const CallBase &call) {
     return call.isLifetimeStartOrEnd() || isa<DbgInfoIntrinsic>(call) || call.isDroppable();
 }
 
+/* The runtime writes there where a loop's iterations begin and end, and keeps no address. */
+static bool asks_for_iterations(const CallBase &call) {
+    StringRef name = call.getCalledFunction() ? call.getCalledFunction()->getName() : StringRef();
+    return begins_with(name, "__kmpc_dispatch_next_") || begins_with(name, "__kmpc_for_static_init_");
+}
+
 static use use_of(const Use &address) {
     const auto *user = cast<Instruction>(address.getUser());
     if (isa<LoadInst>(user) || isa<ICmpInst>(user))
@@ -18,8 +24,10 @@ static use use_of(const Use &address) {
     if (isa<GetElementPtrInst>(user) || isa<BitCastInst>(user) || isa<PHINode>(user) || isa<SelectInst>(user))
         return use::AGAIN;
     if (auto *call = dyn_cast<CallBase>(user))
-        return isa<AnyMemIntrinsic>(call) || is_about_life(*call) || !called_hook(*call).empty() ? use::PLAIN
-                                                                                                 : use::SHARED;
+        return isa<AnyMemIntrinsic>(call) || is_about_life(*call) || asks_for_iterations(*call) ||
+                       !called_hook(*call).empty()
+                   ? use::PLAIN
+                   : use::SHARED;
     return use::SHARED;
 }
 

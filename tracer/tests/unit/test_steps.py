@@ -32,6 +32,8 @@ class TakenTest(unittest.TestCase):
             (PARALLEL_LOOP, OPENMP, ["OpenMP"]),
             (PARALLEL_LOOP, Target(False, False, False, warns=False), []),
             ("__attribute__((always_inline)) int f(void);\n", C, ["attributes"]),
+            ("int (*f)(int) __attribute__((const));\n", C, []),
+            ("int (*f)(int) __attribute__((const));\n", CPLUSPLUS, ["attributes"]),
             ("extern template class basic_string<char>;\n", C, []),
             ("extern template class basic_string<char>;\n", CPLUSPLUS, ["strings"]),
             ("int _Hyperobject(a, b) sum;\nvoid f(void) { _Cilk_sync; }\n", C, ["reducers", "Cilk"]),
@@ -109,6 +111,16 @@ class AttributesTest(unittest.TestCase):
         ):
             with self.subTest(text):
                 self.assertEqual(OWN + wanted, attributes.without(OWN + text))
+
+    def test_const(self) -> None:
+        for text, wanted in (
+            ("int (*f)(int) __attribute__((nothrow, const));", "int (*f)(int) __attribute__((nothrow, __unused__));"),
+            ("[[gnu::__const__]] int f(int const, const int);", "[[gnu::__unused__]] int f(int const, const int);"),
+            ('auto g = f("(const)", x(const));', 'auto g = f("(const)", x(const));'),
+        ):
+            with self.subTest(text):
+                self.assertEqual(OWN + wanted, attributes.without(OWN + text, True))
+                self.assertEqual(OWN + text, attributes.without(OWN + text))
 
     def test_system(self) -> None:
         """The library's functions may be put into each other."""
