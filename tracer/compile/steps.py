@@ -16,10 +16,8 @@ ASM = re.compile(r"\b(?:asm|__asm__|__asm)\s*(?:\w+\s*)*\(")
 # How far back the end of what stands before is looked for.
 NEAR = 5000
 # What asks for a step. All begin with letters or signs, which are found quickly.
-ATTRIBUTES = re.compile("always_inline|no_sanitize|disable_sanitizer")
 OPENMP = re.compile(r"#[ \t]*pragma[ \t]+omp\b|\[\[\s*(?:using\s+)?omp\b")
 CILK = re.compile("_Cilk_|cilk_(?:spawn|sync|for|scope)")
-ALGORITHMS = re.compile(r'"[^"\n]*/spbags/parallel\.h"')
 # gcc calls its runtime for a task, as the body of a loop of Cilk is one, and here the hooks.
 INSTEAD_OF_TASK = '\n__asm__("GOMP_task = __spbags_task");\n'
 
@@ -97,13 +95,6 @@ def without_instances(text: str, _: Target) -> Made:
     return replaced(text, ((*one.span(), "") for one in found if files.at(one.start())[1])), []
 
 
-def with_plain_lambdas(text: str, _: Target) -> Made:
-    """parallel algorithms hear which lambdas touch only their parameters"""
-    from compile import plain_lambdas
-
-    return plain_lambdas.rewritten(text), []
-
-
 # ---- Cilk ----
 
 
@@ -112,13 +103,6 @@ def with_reducers(text: str, target: Target) -> Made:
     from compile import reducers
 
     return (text, reducers.refused(text)) if target.is_clang else (reducers.rewritten(text), [])
-
-
-def without_attributes(text: str, _: Target) -> Made:
-    """no function is put into its caller, or left without hooks"""
-    from compile import attributes
-
-    return attributes.without(text), []
 
 
 def with_spawns(text: str, target: Target) -> Made:
@@ -139,9 +123,7 @@ STEPS = [
     Step("ignored OpenMP", lambda text, to: to.warns and not to.has_openmp and OPENMP.search(text), with_warning),
     Step("OpenMP", lambda text, target: target.has_openmp and OPENMP.search(text), with_openmp),
     Step("strings", lambda text, target: target.is_cplusplus and STRINGS.search(text), without_instances),
-    Step("plain lambdas", lambda text, target: target.is_cplusplus and ALGORITHMS.search(text), with_plain_lambdas),
     Step("reducers", lambda text, _: "_Hyperobject" in text, with_reducers),
-    Step("attributes", lambda text, _: ATTRIBUTES.search(text), without_attributes),
     Step("Cilk", lambda text, _: CILK.search(text), with_spawns),
 ]
 

@@ -17,9 +17,18 @@ static void allow_inlining(tree function) {
     }
 }
 
+/* One that spawns and is put into its caller would have no end to sync at. */
+static void forbid_inlining(tree function) {
+    if (DECL_IN_SYSTEM_HEADER(function) || !lookup_attribute("always_inline", DECL_ATTRIBUTES(function)))
+        return;
+    DECL_ATTRIBUTES(function) = remove_attribute("always_inline", DECL_ATTRIBUTES(function));
+    DECL_DISREGARD_INLINE_LIMITS(function) = 0;
+}
+
 /* As gcc itself does for -fsanitize=thread: so the mark is known to all that deals with the code. */
 void frames_mark(function *fun) {
     allow_inlining(fun->decl);
+    forbid_inlining(fun->decl);
     gcall *mark = gimple_build_call_internal(IFN_TSAN_FUNC_EXIT, 0);
     gimple *whole = gimple_build_try(gimple_body(fun->decl), mark, GIMPLE_TRY_FINALLY);
     gimple_seq sequence = nullptr;

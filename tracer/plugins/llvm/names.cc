@@ -34,9 +34,16 @@ static void rename(DISubprogram *program, StringRef name) {
     program->replaceOperandWith(LINKAGE_NAME, nullptr);
 }
 
-/* The compiler puts some of them into each other where it optimizes. */
+static bool is_of_system(const DISubprogram *program) {
+    for (const char *folder : {"/usr/include/", "/usr/local/include/", "/usr/lib"})
+        if (program && begins_with(program->getFilename(), folder))
+            return true;
+    return false;
+}
+
+/* One that spawns and is put into its caller would have no end to sync at. */
 static void keep_apart(Function &function) {
-    if (!is_made(function.getName()) || !function.hasFnAttribute(Attribute::AlwaysInline))
+    if (is_of_system(function.getSubprogram()) || !function.hasFnAttribute(Attribute::AlwaysInline))
         return;
     function.removeFnAttr(Attribute::AlwaysInline);
     function.addFnAttr(Attribute::NoInline);
