@@ -163,6 +163,20 @@ void accesses::note_reference(gimple *statement, tree reference, bool writes, wa
         add(statement, address_of(reference), size, get_object_alignment(reference), writes, made, behind);
 }
 
+/* Where OpenMP's atomic construct has no instruction, as of a long double, gcc makes a load and a store, which have no
+   place of their own; of one that reads a store of what was loaded. */
+static void locate_atomic(gimple *statement, tree reference) {
+    if (!gimple_has_location(statement) && TREE_CODE(reference) == MEM_REF)
+        gimple_set_location(statement, EXPR_LOCATION(TREE_OPERAND(reference, 0)));
+}
+
+static bool is_of_atomic_read(gimple *store) {
+    tree value = gimple_assign_rhs1(store);
+    gimple *load = TREE_CODE(value) == SSA_NAME ? SSA_NAME_DEF_STMT(value) : nullptr;
+    return !gimple_has_location(store) && load && gimple_assign_load_p(load) &&
+           operand_equal_p(gimple_assign_lhs(store), gimple_assign_rhs1(load), 0);
+}
+
 void accesses::find_in(gimple *statement) {
     if (is_gimple_debug(statement) || gimple_clobber_p(statement))
         return;
@@ -175,10 +189,13 @@ void accesses::find_in(gimple *statement) {
         if (value && TREE_CODE(value) != RESULT_DECL)
             note_reference(statement, value, false);
     } else if (is_gimple_assign(statement)) {
+        tree from = gimple_assign_rhs1(statement), to = gimple_assign_lhs(statement);
+        bool is_atomic_read = is_of_atomic_read(statement);
+        locate_atomic(statement, gimple_store_p(statement) ? to : from);
         if (gimple_assign_single_p(statement))
-            note_reference(statement, gimple_assign_rhs1(statement), false);
-        if (gimple_store_p(statement))
-            note_reference(statement, gimple_assign_lhs(statement), true);
+            note_reference(statement, from, false);
+        if (gimple_store_p(statement) && !is_atomic_read)
+            note_reference(statement, to, true);
     }
 }
 

@@ -2,9 +2,10 @@
    at each function's entry and exit. gcc loads it by -fplugin; by -fplugin-arg-spbags-checks tests stand inline,
    without it hooks are called.
 
-   Each function goes through passes: reducers.h puts the hooks of reducers there, and plain.h answers what headers ask; frames.h marks the ways out;
-   accesses.h puts the hooks of accesses before any optimization; checks.h drops those of what turns out to be the
-   function's alone; at last ranges.h makes one of those of a loop, and checks.h puts tests in place of calls. */
+   Each function goes through passes: reducers.h puts the hooks of reducers there, and plain.h answers what headers ask;
+   frames.h marks the ways out; accesses.h puts the hooks of accesses before any optimization; checks.h drops those of
+   what turns out to be the function's alone; at last ranges.h makes one of those of a loop, and checks.h puts tests in
+   place of calls. */
 #include "accesses.h"
 #include "checks.h"
 #include "frames.h"
@@ -35,6 +36,18 @@ static void read_declaration(void *given, void *) {
         return;
     DECL_PURE_P(decl) = 0;
     TREE_READONLY(decl) = 0;
+}
+
+/* A compiler that puts an inline function of C into its callers needs no other definition of it. Here it has one, which
+   gives way to another; but not in a system's header, where its code may differ from that. */
+static void define_inline(void *, void *) {
+    cgraph_node *node;
+    FOR_EACH_FUNCTION_WITH_GIMPLE_BODY(node)
+    if (DECL_EXTERNAL(node->decl) && DECL_DECLARED_INLINE_P(node->decl) && !lang_GNU_CXX() && !flag_gnu89_inline &&
+        !lookup_attribute("gnu_inline", DECL_ATTRIBUTES(node->decl)) && !DECL_IN_SYSTEM_HEADER(node->decl)) {
+        DECL_EXTERNAL(node->decl) = 0;
+        DECL_WEAK(node->decl) = 1;
+    }
 }
 
 static unsigned put_reducers(function *fun) {
@@ -130,6 +143,7 @@ int plugin_init(plugin_name_args *given, plugin_gcc_version *version) {
     register_callback(given->base_name, PLUGIN_ATTRIBUTES, register_untraced, nullptr);
     register_callback(given->base_name, PLUGIN_FINISH_DECL, read_declaration, nullptr);
     register_callback(given->base_name, PLUGIN_FINISH_PARSE_FUNCTION, read_declaration, nullptr);
+    register_callback(given->base_name, PLUGIN_ALL_IPA_PASSES_START, define_inline, nullptr);
     for (const place &where : places) {
         register_pass_info made = {new pass(where), where.beside, where.instance, where.where};
         register_callback(given->base_name, PLUGIN_PASS_MANAGER_SETUP, nullptr, &made);
