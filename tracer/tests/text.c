@@ -80,6 +80,11 @@ __attribute__((flatten)) static void write_behind(void) {
 }
 
 #ifndef __clang__
+/* What only a part of its caller knows. */
+__attribute__((always_inline)) static inline int say(const char *what, ...) {
+    return __builtin_printf(what, __builtin_va_arg_pack());
+}
+
 static void around(void) {
     int sum = 0;
     void add(int more) {
@@ -115,5 +120,6 @@ int main(void) {
     write_behind();
 #ifndef __clang__
     around();
+    say("%s", "");
 #endif
 }
