@@ -35,12 +35,6 @@ class Files:
         number = bisect_right(self.starts, place) - 1
         return number > 0 and self.starts[number] == place
 
-    def parts(self) -> Iterator[tuple[int, int, bool]]:
-        """Where each part begins, with the line that names its file, and where it ends; and whether that is a header of
-        the system."""
-        for start, end, flags in zip(self.starts[1:], [*self.starts[2:], len(self.text)], self.flags[1:]):
-            yield start, end, "3" in flags
-
     def own(self) -> Iterator[tuple[int, int]]:
         """Where the parts begin and end that stand in no header of the system, nor in what one includes."""
         around: list[bool] = []

@@ -28,7 +28,7 @@ FORMS = {
     "postfix": (f"{LEFT}{{}}", "0"),
 }
 BUILT_IN = "a spawn has to be a call, and this operator is built in"
-OUTSIDE = "__attribute__((no_sanitize_thread))"
+OUTSIDE = "__attribute__((spbags_untraced))"
 
 
 def binary_operators(tokens: list[Token], first: int, end: int) -> Iterator[int]:

@@ -16,11 +16,10 @@ ASM = re.compile(r"\b(?:asm|__asm__|__asm)\s*(?:\w+\s*)*\(")
 # How far back the end of what stands before is looked for.
 NEAR = 5000
 # What asks for a step. All begin with letters or signs, which are found quickly.
-ATTRIBUTES = re.compile("always_inline|no_sanitize|disable_sanitizer")
+# The end of an attribute; many sources have it elsewhere too.
 CONST = re.compile(r"const(?:__)?\s*[,)\]]")
 OPENMP = re.compile(r"#[ \t]*pragma[ \t]+omp\b|\[\[\s*(?:using\s+)?omp\b")
 CILK = re.compile("_Cilk_|cilk_(?:spawn|sync|for|scope)")
-ALGORITHMS = re.compile(r'"[^"\n]*/spbags/parallel\.h"')
 # gcc calls its runtime for a task, as the body of a loop of Cilk is one, and here the hooks.
 INSTEAD_OF_TASK = '\n__asm__("GOMP_task = __spbags_task");\n'
 
@@ -98,13 +97,6 @@ def without_instances(text: str, _: Target) -> Made:
     return replaced(text, ((*one.span(), "") for one in found if files.at(one.start())[1])), []
 
 
-def with_plain_lambdas(text: str, _: Target) -> Made:
-    """parallel algorithms hear which lambdas touch only their parameters"""
-    from compile import plain_lambdas
-
-    return plain_lambdas.rewritten(text), []
-
-
 # ---- Cilk ----
 
 
@@ -115,19 +107,11 @@ def with_reducers(text: str, target: Target) -> Made:
     return (text, reducers.refused(text)) if target.is_clang else (reducers.rewritten(text), [])
 
 
-def may_have_attributes(text: str, target: Target) -> bool:
-    return bool(ATTRIBUTES.search(text) or (is_gplusplus(target) and CONST.search(text)))
-
-
-def is_gplusplus(target: Target) -> bool:
-    return bool(target.is_cplusplus and not target.is_clang)
-
-
-def without_attributes(text: str, target: Target) -> Made:
-    """no function is put into its caller, or left without hooks; in C++ by gcc no call is left out"""
+def without_const(text: str, _: Target) -> Made:
+    """no call is left out of a function that is said to do nothing but compute"""
     from compile import attributes
 
-    return attributes.without(text, is_gplusplus(target)), []
+    return attributes.without_const(text), []
 
 
 def with_spawns(text: str, target: Target) -> Made:
@@ -148,9 +132,8 @@ STEPS = [
     Step("ignored OpenMP", lambda text, to: to.warns and not to.has_openmp and OPENMP.search(text), with_warning),
     Step("OpenMP", lambda text, target: target.has_openmp and OPENMP.search(text), with_openmp),
     Step("strings", lambda text, target: target.is_cplusplus and STRINGS.search(text), without_instances),
-    Step("plain lambdas", lambda text, target: target.is_cplusplus and ALGORITHMS.search(text), with_plain_lambdas),
     Step("reducers", lambda text, _: "_Hyperobject" in text, with_reducers),
-    Step("attributes", may_have_attributes, without_attributes),
+    Step("attributes", lambda text, to: to.is_cplusplus and not to.is_clang and CONST.search(text), without_const),
     Step("Cilk", lambda text, _: CILK.search(text), with_spawns),
 ]
 

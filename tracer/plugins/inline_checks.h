@@ -22,6 +22,16 @@ static const char inline_checks[] =
 	\BEFORE \NAME(%rip)\BEHIND
 .endif
 .endm
+# Calls go by a jump that those of an object share: so they need no relocation.
+.macro __spbags_call HOOK
+	call .L_spbags_\HOOK
+.ifndef .L_spbags_\HOOK
+	.pushsection .text, 1
+.L_spbags_\HOOK:
+	jmp \HOOK
+	.popsection
+.endif
+.endm
 # What an access remembers is 9: whether that is the block with this byte.
 .macro __spbags_remembered
 	leaq (%rsi,%rax), %rcx
@@ -69,7 +79,7 @@ static const char inline_checks[] =
 3:
 	addq %rax, %rsi
 	leaq 9f(%rip), %rdx
-	call __spbags_block_\KIND\SIZE
+	__spbags_call __spbags_block_\KIND\SIZE
 	jmp 6f
 .if \SIZE == 8
 7:
@@ -88,10 +98,10 @@ static const char inline_checks[] =
 .endif
 	\IS_REPEAT 6f
 5:
-	call __spbags_stack_\KIND\SIZE
+	__spbags_call __spbags_stack_\KIND\SIZE
 	jmp 6f
 1:
-	call __spbags_long_\KIND\SIZE
+	__spbags_call __spbags_long_\KIND\SIZE
 6:
 	.pushsection spbags_sites, "aw", @nobits
 	.balign 8
@@ -121,10 +131,10 @@ static const char inline_checks[] =
 .endif
 	\IS_REPEAT 6f
 5:
-	call __spbags_stack_\KIND\SIZE
+	__spbags_call __spbags_stack_\KIND\SIZE
 	jmp 6f
 1:
-	call __spbags_long_\KIND\SIZE
+	__spbags_call __spbags_long_\KIND\SIZE
 6:
 .endm
 .macro __spbags_read_local SIZE
@@ -162,7 +172,7 @@ static const char inline_checks[] =
 	__spbags_global "movq %rcx,", __spbags_short_way_end, "", %rsi
 	jmp 6f
 7:
-	call __tsan_func_entry
+	__spbags_call __tsan_func_entry
 6:
 .endm
 )"
@@ -184,7 +194,7 @@ static const char inline_checks[] =
 	__spbags_global "movq %rdx,", __spbags_short_way_end, "", %rsi
 	jmp 6f
 7:
-	call __tsan_func_exit
+	__spbags_call __tsan_func_exit
 6:
 .endm
 )";

@@ -61,7 +61,8 @@ LONGEST_START, PUSH = 48, re.compile(rb"\x41?[\x50-\x57]")
 OWN = re.compile("__spbags_")
 # The name of a hook that is called beside an access ends with how many bytes that has.
 WIDTH = re.compile("_(?:read|write)([0-9]+)$")
-CALL, CALL_SIZE = 0xE8, 5
+# A call, and the jump that calls of a hook share, before which the assembler may put some bytes.
+CALL, CALL_SIZE, JUMP = 0xE8, 5, re.compile(rb"[^\xe9]{0,5}\xe9(.{4})", re.DOTALL)
 OUTLINED = re.compile(r"\._omp_(?:cpy)?fn\.[0-9]+$")
 # The lock of a critical region of OpenMP: gcc's, and clang's, which has one too if the region has no name.
 CRITICAL = re.compile(r"\.gomp_critical_user_(.*?)(?:\.var)?")
@@ -128,7 +129,9 @@ class Names:
     def width(self, code: int) -> int | None:
         """How many bytes the access has whose hook returns to this code."""
         call, hooks = self.elf.code_at(code - CALL_SIZE, CALL_SIZE), self.elf.sections[HOOKS]
-        to = code + struct.unpack("<i", call[1:])[0] if call and call[0] == CALL else 0
+        to = code + int.from_bytes(call[1:], "little", signed=True) if call[:1] == bytes([CALL]) else 0
+        jump = JUMP.match(self.elf.code_at(to, 2 * CALL_SIZE))
+        to += jump.end() + int.from_bytes(jump[1], "little", signed=True) if jump else 0
         hook = self.elf.functions.at(to) if 0 <= to - hooks.address < hooks.size else None
         found = hook and WIDTH.search(hook.name)
         return int(found[1]) if found else None

@@ -129,7 +129,7 @@ static void questions() {
         return number == 2;
     });
     end = std::remove_if(par, numbers.begin(), end, [](const int &number) -> bool { return number == 7; });
-    end = std::remove_if(par, numbers.begin(), end, [](const int &number) { return *(&number + 0) == 8; }); // [told]
+    end = std::remove_if(par, numbers.begin(), end, [](const int &number) { return *(&number + (number > 99)) == 8; }); // [told]
     end = std::remove(par, numbers.begin(), end, 9);
     numbers.erase(end, numbers.end());
     std::partition(par, numbers.begin(), numbers.end(), [](int number) { // [told]

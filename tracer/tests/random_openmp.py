@@ -210,14 +210,23 @@ class Member:
     def barrier(self, _):
         yield
 
+    def is_last(self):
+        return self.number + 1 == self.team.size
+
     def does(self, item):
-        """Whether this member does all of it, or the first block."""
+        """Whether this member does most of it, or the first block."""
         if self.number == 0:
             item.first = None
-        leaves = self.number + 1 < self.team.size and (self.part.has_master or self.team.asks)
+        leaves = not self.is_last() and (self.part.has_master or self.team.asks)
         if item.first is None and not leaves:
             item.first = self.number
         return item.first == self.number
+
+    def share(self, item, count):
+        """What this member does of a loop or of sections that aren't in blocks: the last one has the last two."""
+        rest = count - min(count // 2, 2)
+        first = 0 if item.first == self.number else rest
+        return range(first, count) if self.is_last() else range(first, rest)
 
     def single(self, item):
         if self.does(item):
@@ -233,7 +242,7 @@ class Member:
         yield from ()
 
     def sections(self, item):
-        does = self.does(item)
+        self.does(item)
         if self.number == 0:
             item.in_blocks = self.team.asks
         if item.in_blocks:
@@ -242,8 +251,8 @@ class Member:
             for at in self.block(item, len(item.inner)):
                 self.do(self.part, item.inner[at])
         else:
-            for inner in item.inner if does else ():
-                self.part.spawn(lambda child, inner=inner: self.do(child, inner))
+            for at in self.share(item, len(item.inner)):
+                self.part.spawn(lambda child, inner=item.inner[at]: self.do(child, inner))
         if not item.nowait:
             yield
 
@@ -252,7 +261,7 @@ class Member:
         sizes = [(count // self.team.size + (number < count % self.team.size)) * (number >= item.first)
                  for number in range(self.team.size)]
         first = sum(sizes[:self.number])
-        return range(first, count if self.number + 1 == self.team.size else first + sizes[self.number])
+        return range(first, count if self.is_last() else first + sizes[self.number])
 
     def iteration(self, procedure, item, at):
         for inner in item.inner:
@@ -278,10 +287,10 @@ class Member:
                 self.iteration(self.part, item, at)
             if item.is_made_so and self.number == item.first:
                 self.part.sync()
-        elif does:
-            for at in range(item.count):
+        else:
+            for at in self.share(item, item.count):
                 self.part.spawn(self.iteration, item, at)
-        if item.sum and self.number + 1 == self.team.size:
+        if item.sum and self.is_last():
             self.part.spawn(self.combine, item.sum)
         if not item.nowait:
             yield

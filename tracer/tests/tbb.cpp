@@ -177,10 +177,12 @@ static void sums() {
         return sum + numbers[range.begin()];
     }, std::plus<long>(), tbb::simple_partitioner()));
     // This one has one grouping, and with a static partitioner several.
-    auto join = [](long one, long other) { return one + other; };
+    long (*join)(long, long) = [](long one, long other) { return one + other; };
     print(tbb::parallel_deterministic_reduce(all, 0L, add, join));
     print(tbb::parallel_deterministic_reduce(all, 0L, add, join, tbb::static_partitioner())); // [told]
     print(tbb::parallel_reduce(all, 0L, add, [](long one, long other) { return one + other; }));
+    auto sum = [](long one, long other) { return one + other; };
+    print(tbb::parallel_reduce(all, 0L, add, sum));
     // Two leaves: their bodies are this one and one that is split off it.
     Largest largest(numbers);
     tbb::parallel_reduce(tbb::blocked_range<size_t>(0, 6, 3), largest); // [told]

@@ -161,6 +161,13 @@ class ValuesTest(TracerTest):
         self.check_level("-O1")
 
 
+INLINE = """inline void set(int *at) { *at = 1; }
+static int cell;
+static void child(void) { set(&cell); }
+int main(void) { _Cilk_spawn child(); set(&cell); return 0; }
+"""
+
+
 class CompileTest(TracerTest):
     def test_refused(self):
         source = os.path.join(TESTS, "refused.c")
@@ -190,6 +197,13 @@ class CompileTest(TracerTest):
             self.write("none.c", NONE)
             if self.run_command(CC, "-w", "-o", "none", "none.c").status != 0:
                 self.ends_with(1, "undefined reference to", SPBAGS_CC, "-w", "-o", "none", "none.c")
+
+    def test_inline(self):
+        """A function that needs no definition elsewhere, since a compiler puts it into its callers."""
+        self.write("inline.c", INLINE)
+        self.succeeds(CC, "-O1", "-o", "plain", "-D_Cilk_spawn=", "inline.c")
+        self.succeeds(SPBAGS_CC, "-O1", "-o", "inline", "inline.c")
+        self.assertEqual([(1, ("inline.c", 1), ("inline.c", 1))], self.races_of("./inline"))
 
     def test_library_of_mathematics(self):
         """A program links without it if a compiler needs no call."""

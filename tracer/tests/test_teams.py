@@ -64,6 +64,20 @@ int main(int count, char **words) {
         }
 }
 """
+# gcc has a lock for this, and writes back what it reads.
+WIDE = """
+static long double sum;
+static void use(long double value) { if (value == -77) __builtin_abort(); }
+int main(void) {
+#pragma omp parallel num_threads(2)
+    {
+        long double copy;
+#pragma omp atomic read
+        copy = sum;
+        use(copy);
+    }
+}
+"""
 
 
 class AtomicTest(TracerTest):
@@ -77,6 +91,11 @@ class AtomicTest(TracerTest):
                 self.ends_with(1, "", SPBAGS_RUN, "--", "./atomics", name)
                 self.ends_with(0, "", SPBAGS_RUN, "--data-races", "--", "./atomics", name)
                 self.ends_with(1, "", SPBAGS_RUN, "--data-races", "--", "./atomics", name, "plain")
+
+    def test_wide(self):
+        self.write("wide.c", WIDE)
+        self.succeeds(SPBAGS_CC, "-fopenmp", "-o", "wide", "wide.c", *["-latomic"] * (CC == "clang"))
+        self.ends_with(0, "", SPBAGS_RUN, "--", "./wide")
 
 
 class NoteTest(TracerTest):

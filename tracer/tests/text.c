@@ -3,7 +3,7 @@
 #include <cilk/cilk.h>
 #include <stdarg.h>
 
-static int table[16], once, unused, unread, expected, swapped = 1, barrier;
+static int table[16], once, unused, unread, expected, swapped = 1, barrier, hidden, waited;
 static volatile int sink;
 static void *buffer[5];
 
@@ -67,7 +67,24 @@ static void hold(void) {
     __asm__ volatile("" : "+r"(barrier)); /* [4 barrier first] [4 barrier second] */
 }
 
+/* Attributes by which a sanitizer would leave a function out. */
+__attribute__((no_sanitize("thread"), disable_sanitizer_instrumentation)) static void hide(void) {
+    hidden = 1; /* [4 hidden first] */
+}
+
+/* Attributes by which a function would go into another one, and so wouldn't wait for its child. */
+__attribute__((always_inline)) static inline void spawn_inside(void) { cilk_spawn read_shared(&waited); }
+__attribute__((flatten)) static void write_behind(void) {
+    spawn_inside();
+    waited = 1;
+}
+
 #ifndef __clang__
+/* What only a part of its caller knows. */
+__attribute__((always_inline)) static inline int say(const char *what, ...) {
+    return __builtin_printf(what, __builtin_va_arg_pack());
+}
+
 static void around(void) {
     int sum = 0;
     void add(int more) {
@@ -98,7 +115,11 @@ int main(void) {
     sink = expected; /* [4 expected second] */
     cilk_spawn hold();
     hold();
+    cilk_spawn hide();
+    hidden = 2; /* [4 hidden second] */
+    write_behind();
 #ifndef __clang__
     around();
+    say("%s", "");
 #endif
 }

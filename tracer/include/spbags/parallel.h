@@ -20,6 +20,7 @@ extern "C" {
 void __spbags_part(const char *of, const void *code, long first, long last);
 void __spbags_leave_parallel(const char *const *unused);
 void __spbags_tell(const char *what, const void *code);
+bool __spbags_is_plain(...);
 void __spbags_group_run(const void *id, const char *of, const void *code, long first, long last);
 void __spbags_group_wait(const void *id);
 void __spbags_leave_group(const void *const *id);
@@ -60,52 +61,42 @@ SPBAGS_APART void call_with_own(Function &function, Box<Object> &own) {
 
 /* ---- Functions that another schedule calls with other values, or beside something else ---- */
 
-template <class Value>
-using Is_number = std::integral_constant<bool, std::is_arithmetic<Value>::value || std::is_void<Value>::value>;
+/* Whether a function has no members by which it would touch more than what it gets. */
+template <class Function> struct Has_nothing : std::is_empty<Function> {};
 
-/* A lambda of the program's that touches nothing but its parameters: spbags-c++ finds that in its text. */
-template <class Function> struct Plain : Function {
-    explicit Plain(const Function &function) : Function(function) {}
-};
-template <class Function> Plain<Function> plain(const Function &function) { return Plain<Function>(function); }
-
-/* Whether a call of this function with numbers does nothing but compute. */
-template <class Function> struct Computes : std::false_type {};
-template <class Function> struct Computes<Plain<Function>> : std::true_type {};
-#define SPBAGS_COMPUTES(NAME) template <class Type> struct Computes<std::NAME<Type>> : Is_number<Type> {};
-SPBAGS_COMPUTES(plus)
-SPBAGS_COMPUTES(minus)
-SPBAGS_COMPUTES(multiplies)
-SPBAGS_COMPUTES(divides)
-SPBAGS_COMPUTES(modulus)
-SPBAGS_COMPUTES(bit_and)
-SPBAGS_COMPUTES(bit_or)
-SPBAGS_COMPUTES(bit_xor)
-SPBAGS_COMPUTES(logical_and)
-SPBAGS_COMPUTES(logical_or)
-SPBAGS_COMPUTES(equal_to)
-SPBAGS_COMPUTES(not_equal_to)
-SPBAGS_COMPUTES(less)
-SPBAGS_COMPUTES(less_equal)
-SPBAGS_COMPUTES(greater)
-SPBAGS_COMPUTES(greater_equal)
-#undef SPBAGS_COMPUTES
-
-/* Whether the function only computes with values of these types, and so does the same beside anything. */
 template <class Function, class One, class Other>
-using Is_known = std::integral_constant<bool, Computes<typename std::decay<Function>::type>::value &&
-                                                  Is_number<typename std::decay<One>::type>::value &&
-                                                  Is_number<typename std::decay<Other>::type>::value>;
+auto call_any(Function &function, One &one, Other &other, int) -> decltype(void(function(one, other))) {
+    function(one, other);
+}
+template <class Function, class One, class Other> void call_any(Function &function, One &one, Other &, long) {
+    function(one);
+}
+template <class Function, class One, class Other> void call_with(Function &function, One &one, Other &other) {
+    call_any(function, one, other, 0);
+}
+
+/* Whether the function only computes with numbers of these types, and so does the same beside anything: the plugin says
+   which functions touch nothing else than their variables and what they get. */
+template <class Function, class One, class Other>
+using May_compute = std::integral_constant<bool, Has_nothing<Function>::value && std::is_arithmetic<One>::value &&
+                                                     std::is_arithmetic<Other>::value>;
+template <class Function, class One, class Other> bool computes(std::true_type) {
+    return __spbags_is_plain(&call_with<Function, One, Other>);
+}
+template <class Function, class One, class Other> bool computes(std::false_type) { return false; }
+template <class Function, class One, class Other> bool computes() {
+    return computes<Function, One, Other>(May_compute<Function, One, Other>());
+}
 
 template <class Join, class One, class Other = One> void tell_join(const void *code) {
-    if (!Is_known<Join, One, Other>::value)
+    if (!computes<Join, typename std::decay<One>::type, typename std::decay<Other>::type>())
         __spbags_tell("what joins parts here may access or compute something else in another grouping, which isn't run",
                       code);
 }
 
 template <class Function, class Iterator> void tell_moves(const void *code) {
     typedef typename std::iterator_traits<Iterator>::value_type Element;
-    if (!Is_known<Function, Element, Element>::value)
+    if (!computes<Function, Element, Element>())
         __spbags_tell("elements may be moved or copied here while the function looks at others, which isn't run", code);
 }
 

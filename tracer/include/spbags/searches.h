@@ -47,7 +47,7 @@ template <class Value> struct Equals {
     const Value &value;
     template <class Element> bool operator()(const Element &element) const { return element == value; }
 };
-template <class Value> struct Computes<Equals<Value>> : Is_number<Value> {};
+template <class Value> struct Has_nothing<Equals<Value>> : std::is_arithmetic<Value> {};
 
 /* Of each element but the last: what the function says of it and of the next. */
 template <class Iterator, class Function>

@@ -23,7 +23,7 @@ int __spbags_left_child(const volatile void *__function, unsigned long __size, c
 
 #if __cplusplus >= 201103L
 /* What such a function does isn't in the trace. */
-#define __SPBAGS_OUTSIDE __attribute__((__no_sanitize_thread__, __noinline__))
+#define __SPBAGS_OUTSIDE __attribute__((__spbags_untraced__, __noinline__))
 #define __SPBAGS_CODE __builtin_return_address(0)
 
 /* The end of a child, also by an exception. */

@@ -179,6 +179,20 @@ static bool is_only_asked(tree value) {
     return is_asked;
 }
 
+/* Where OpenMP's atomic construct has no instruction, as of a long double, gcc makes a load and a store, which have no
+   place of their own; of one that reads a store of what was loaded. */
+static void locate_atomic(gimple *statement, tree reference) {
+    if (!gimple_has_location(statement) && TREE_CODE(reference) == MEM_REF)
+        gimple_set_location(statement, EXPR_LOCATION(TREE_OPERAND(reference, 0)));
+}
+
+static bool is_of_atomic_read(gimple *store) {
+    tree value = gimple_assign_rhs1(store);
+    gimple *load = TREE_CODE(value) == SSA_NAME ? SSA_NAME_DEF_STMT(value) : nullptr;
+    return !gimple_has_location(store) && load && gimple_assign_load_p(load) &&
+           operand_equal_p(gimple_assign_lhs(store), gimple_assign_rhs1(load), 0);
+}
+
 void accesses::find_in(gimple *statement) {
     if (is_gimple_debug(statement) || gimple_clobber_p(statement))
         return;
@@ -191,13 +205,14 @@ void accesses::find_in(gimple *statement) {
         if (value && TREE_CODE(value) != RESULT_DECL)
             note_reference(statement, value, false);
     } else if (is_gimple_assign(statement)) {
-        tree result = gimple_assign_lhs(statement);
-        bool is_needless =
-            TREE_CODE(result) == SSA_NAME && !gimple_has_volatile_ops(statement) && is_only_asked(result);
+        tree from = gimple_assign_rhs1(statement), to = gimple_assign_lhs(statement);
+        bool is_needless = TREE_CODE(to) == SSA_NAME && !gimple_has_volatile_ops(statement) && is_only_asked(to);
+        bool is_atomic_read = is_of_atomic_read(statement);
+        locate_atomic(statement, gimple_store_p(statement) ? to : from);
         if (gimple_assign_single_p(statement) && !is_needless)
-            note_reference(statement, gimple_assign_rhs1(statement), false);
-        if (gimple_store_p(statement))
-            note_reference(statement, gimple_assign_lhs(statement), true);
+            note_reference(statement, from, false);
+        if (gimple_store_p(statement) && !is_atomic_read)
+            note_reference(statement, to, true);
     }
 }
 

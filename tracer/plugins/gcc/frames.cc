@@ -17,9 +17,44 @@ static void allow_inlining(tree function) {
     }
 }
 
+static bool is_of_hooks(tree decl) {
+    return decl && DECL_NAME(decl) && begins_with(IDENTIFIER_POINTER(DECL_NAME(decl)), "__spbags_");
+}
+
+/* Sees whether a statement is of those that stand for a spawn, a sync or the like. */
+static tree see_waiting(gimple_stmt_iterator *at, bool *, walk_stmt_info *info) {
+    gimple *statement = gsi_stmt(*at);
+    bool waits = is_gimple_call(statement) && is_of_hooks(gimple_call_fndecl(statement));
+    gbind *block = dyn_cast<gbind *>(statement);
+    for (tree decl = block ? gimple_bind_vars(block) : NULL_TREE; decl; decl = DECL_CHAIN(decl))
+        waits |= is_of_hooks(decl);
+    *static_cast<bool *>(info->info) |= waits;
+    return NULL_TREE;
+}
+
+static bool waits(tree function) {
+    bool found = false;
+    walk_stmt_info info;
+    memset(&info, 0, sizeof info);
+    info.info = &found;
+    walk_gimple_seq(gimple_body(function), see_waiting, nullptr, &info);
+    return found;
+}
+
+/* A function that waits for its children is no part of its caller. Others may have to be one: the compiler knows only
+   then that what they get is a constant. */
+static void forbid_inlining(tree function) {
+    if (DECL_IN_SYSTEM_HEADER(function) || !lookup_attribute("always_inline", DECL_ATTRIBUTES(function)) ||
+        !waits(function))
+        return;
+    DECL_ATTRIBUTES(function) = remove_attribute("always_inline", DECL_ATTRIBUTES(function));
+    DECL_DISREGARD_INLINE_LIMITS(function) = 0;
+}
+
 /* As gcc itself does for -fsanitize=thread: so the mark is known to all that deals with the code. */
 void frames_mark(function *fun) {
     allow_inlining(fun->decl);
+    forbid_inlining(fun->decl);
     gcall *mark = gimple_build_call_internal(IFN_TSAN_FUNC_EXIT, 0);
     gimple *whole = gimple_build_try(gimple_body(fun->decl), mark, GIMPLE_TRY_FINALLY);
     gimple_seq sequence = nullptr;

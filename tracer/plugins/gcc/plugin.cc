@@ -2,22 +2,30 @@
    at each function's entry and exit. gcc loads it by -fplugin; by -fplugin-arg-spbags-checks tests stand inline,
    without it hooks are called.
 
-   Each function goes through passes: reducers.h puts the hooks of reducers there; frames.h marks the ways out;
-   accesses.h puts the hooks of accesses before any optimization; checks.h drops those of what turns out to be the
-   function's alone; at last ranges.h makes one of those of a loop, and checks.h puts tests in place of calls. */
+   Each function goes through passes: reducers.h puts the hooks of reducers there, and plain.h answers what headers ask;
+   frames.h marks the ways out; accesses.h puts the hooks of accesses before any optimization; checks.h drops those of
+   what turns out to be the function's alone; at last ranges.h makes one of those of a loop, and checks.h puts tests in
+   place of calls. */
 #include "accesses.h"
 #include "checks.h"
 #include "frames.h"
+#include "plain.h"
 #include "ranges.h"
 #include "reducers.h"
 
 int plugin_is_GPL_compatible;
 
-/* The compiler keeps the attribute no_sanitize_thread as a bit of another one. */
+/* The tracer's own headers have functions that need no hooks. */
+static const char UNTRACED[] = "spbags_untraced";
+
+static void register_untraced(void *, void *) {
+    static const attribute_spec specification = {UNTRACED, 0, 0, true, false, false, false, nullptr, nullptr};
+    register_attribute(&specification);
+}
+
 static bool is_traced(function *fun) {
-    tree without = lookup_attribute("no_sanitize", DECL_ATTRIBUTES(fun->decl));
-    return !(without && (tree_to_uhwi(TREE_VALUE(without)) & SANITIZE_THREAD)) &&
-           !lookup_attribute("naked", DECL_ATTRIBUTES(fun->decl)) && !fun->is_thunk;
+    tree attributes = DECL_ATTRIBUTES(fun->decl);
+    return !lookup_attribute(UNTRACED, attributes) && !lookup_attribute("naked", attributes) && !fun->is_thunk;
 }
 
 /* A call of a function of the program that is declared to do nothing but read is a call like others: else the compiler
@@ -58,7 +66,21 @@ static void read_body(void *given, void *) {
     read_calls(DECL_SAVED_TREE(static_cast<tree>(given)), &seen);
 }
 
+/* A compiler that puts an inline function of C into its callers needs no other definition of it. Here it has one, which
+   gives way to another; but not in a system's header, where its code may differ from that. */
+static void define_inline(void *, void *) {
+    cgraph_node *node;
+    FOR_EACH_FUNCTION_WITH_GIMPLE_BODY(node)
+    if (DECL_EXTERNAL(node->decl) && DECL_DECLARED_INLINE_P(node->decl) && !lang_GNU_CXX() && !flag_gnu89_inline &&
+        !lookup_attribute("gnu_inline", DECL_ATTRIBUTES(node->decl)) && !DECL_IN_SYSTEM_HEADER(node->decl)) {
+        DECL_EXTERNAL(node->decl) = 0;
+        DECL_WEAK(node->decl) = 1;
+    }
+}
+
 static unsigned put_reducers(function *fun) {
+    if (plain_is_asked)
+        plain_put(fun);
     reducers_put(fun);
     return 0;
 }
@@ -144,10 +166,13 @@ int plugin_init(plugin_name_args *given, plugin_gcc_version *version) {
         if (strcmp(given->argv[at].key, "checks") == 0)
             checks_begin(given->base_name);
     hooks_begin(given->base_name);
+    plain_begin(given->base_name);
     reducers_begin(given->base_name);
+    register_callback(given->base_name, PLUGIN_ATTRIBUTES, register_untraced, nullptr);
     register_callback(given->base_name, PLUGIN_FINISH_DECL, read_declaration, nullptr);
     register_callback(given->base_name, PLUGIN_FINISH_PARSE_FUNCTION, read_declaration, nullptr);
     register_callback(given->base_name, PLUGIN_PRE_GENERICIZE, read_body, nullptr);
+    register_callback(given->base_name, PLUGIN_ALL_IPA_PASSES_START, define_inline, nullptr);
     for (const place &where : places) {
         register_pass_info made = {new pass(where), where.beside, where.instance, where.where};
         register_callback(given->base_name, PLUGIN_PASS_MANAGER_SETUP, nullptr, &made);

@@ -1,3 +1,4 @@
+#include "plain.h"
 #include "reducers.h"
 
 static const char NAME[] = "spbags_reducer";
@@ -67,45 +68,12 @@ static tree variant_of(tree type, tree name, tree arguments) {
 
 /* ---- The identity and the reduce function ---- */
 
-/* What functions name that touch nothing else than their variables and what they get, all by their numbers. Those that
-   touch more name one that isn't here. */
-typedef std::vector<unsigned> numbers_of_functions;
-static std::map<unsigned, numbers_of_functions> plain;
-
-/* Sees a function that is named, and what that names. */
-static tree see_function(tree *at, int *, void *named) {
-    if (TREE_CODE(*at) == FUNCTION_DECL) {
-        static_cast<numbers_of_functions *>(named)->push_back(DECL_UID(*at));
-        tree *body = &DECL_SAVED_TREE(*at);
-        if (*body && *body != error_mark_node && !plain.count(DECL_UID(*at))) {
-            numbers_of_functions &inside = plain[DECL_UID(*at)];
-            if (walk_tree_without_duplicates(body, see_function, &inside))
-                inside.push_back(0);
-        }
-    }
-    bool touches_more = (TREE_CODE(*at) == CALL_EXPR && !get_callee_fndecl(*at)) || TREE_CODE(*at) == ASM_EXPR ||
-                        (VAR_P(*at) && is_global_var(*at)) || TREE_CODE(*at) == STRING_CST;
-    return touches_more ? *at : NULL_TREE;
-}
-
-/* One that names itself is as what else it names. */
-static bool are_plain(const numbers_of_functions &named, std::set<unsigned> *seen) {
-    return std::all_of(named.begin(), named.end(), [&](unsigned function) {
-        auto found = plain.find(function);
-        return !seen->insert(function).second || (found != plain.end() && are_plain(found->second, seen));
-    });
-}
-
 /* A lambda is named by the function that gives its address. */
 static bool are_plain(tree arguments) {
-    for (int number = 0; arguments && number < 2; number++) {
-        tree *given = &CALL_EXPR_ARG(TREE_VALUE(arguments), number);
-        numbers_of_functions named;
-        std::set<unsigned> seen;
-        if (walk_tree_without_duplicates(given, see_function, &named) || !are_plain(named, &seen) ||
-            (named.empty() && !integer_zerop(*given)))
+    for (int number = 0; arguments && number < 2; number++)
+        if (tree *given = &CALL_EXPR_ARG(TREE_VALUE(arguments), number);
+            !plain_is(given, true) && !integer_zerop(*given))
             return false;
-    }
     return arguments;
 }
 
@@ -142,7 +110,7 @@ static tree with_attribute(tree node, tree name, tree arguments, int flags) {
 
 /* A variable, a member or an array has the attribute itself; of all else it is the type of what is pointed to. */
 static tree read_attribute(tree *node, tree name, tree arguments, int flags, bool *leaves_out) {
-    reducer_types_any = true;
+    reducer_types_any = plain_is_asked = true;
     /* Which has seen the functions that are known already. */
     are_plain(arguments);
     *leaves_out = true;
@@ -170,14 +138,6 @@ static void register_attributes(void *, void *) {
     register_attribute(&specification);
 }
 
-static void read_function(void *function, void *) {
-    tree decl = static_cast<tree>(function);
-    numbers_of_functions named;
-    if (reducer_types_any)
-        see_function(&decl, nullptr, &named);
-}
-
 void reducer_types_begin(const char *plugin) {
     register_callback(plugin, PLUGIN_ATTRIBUTES, register_attributes, nullptr);
-    register_callback(plugin, PLUGIN_PRE_GENERICIZE, read_function, nullptr);
 }

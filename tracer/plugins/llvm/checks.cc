@@ -6,6 +6,9 @@
 
 using namespace llvm;
 
+/* The entry of a function is run more than so many times as often as a block that is cold. */
+enum { COLD = 16 };
+
 static cl::opt<bool> are_wanted("spbags-checks", cl::desc("Tests stand inline"));
 
 void checks_begin(Module &module) {
@@ -38,14 +41,19 @@ static CallInst *test(Instruction *before, StringRef text, Value *address) {
     return call;
 }
 
-void checks_put(Function &function) {
+/* Whether a block is run so seldom, by the program's own word or by what it leads to, that a call does as well. */
+static bool is_cold(const BasicBlock *block, const BlockFrequencyInfo &frequencies) {
+    return frequencies.getBlockFreq(block) < BlockFrequency(frequencies.getEntryFreq()) * BranchProbability(1, COLD);
+}
+
+void checks_put(Function &function, const BlockFrequencyInfo &frequencies) {
     static const std::map<StringRef, StringRef> tests = {{"__tsan_read4", "\t__spbags_read 4"},
                                                          {"__tsan_read8", "\t__spbags_read 8"},
                                                          {"__tsan_write4", "\t__spbags_write 4"},
                                                          {"__tsan_write8", "\t__spbags_write 8"}};
     std::vector<CallInst *> replaced;
     for (Instruction &one : instructions(function))
-        if (are_wanted && tests.count(called_hook(one)) > 0)
+        if (are_wanted && tests.count(called_hook(one)) > 0 && !is_cold(one.getParent(), frequencies))
             replaced.push_back(cast<CallInst>(&one));
     for (CallInst *call : replaced) {
         test(call, tests.at(called_hook(*call)), call->getArgOperand(0))->setDebugLoc(call->getDebugLoc());

@@ -34,9 +34,26 @@ static void rename(DISubprogram *program, StringRef name) {
     program->replaceOperandWith(LINKAGE_NAME, nullptr);
 }
 
-/* The compiler puts some of them into each other where it optimizes. */
+static bool is_of_system(const DISubprogram *program) {
+    for (const char *folder : {"/usr/include/", "/usr/local/include/", "/usr/lib"})
+        if (program && begins_with(program->getFilename(), folder))
+            return true;
+    return false;
+}
+
+/* A compiler that puts an inline function of C into its callers needs no other definition of it. Here it has one, which
+   gives way to another; but not in a system's header, where its code may differ from that. */
+static void define_inline(Function &function) {
+    const DISubprogram *program = function.getSubprogram();
+    const DICompileUnit *unit = program ? program->getUnit() : nullptr;
+    if (function.hasAvailableExternallyLinkage() && unit && !is_of_system(program) &&
+        !dwarf::isCPlusPlus(static_cast<dwarf::SourceLanguage>(unit->getSourceLanguage())))
+        function.setLinkage(GlobalValue::WeakAnyLinkage);
+}
+
+/* One that spawns and is put into its caller would have no end to sync at. */
 static void keep_apart(Function &function) {
-    if (!is_made(function.getName()) || !function.hasFnAttribute(Attribute::AlwaysInline))
+    if (is_of_system(function.getSubprogram()) || !function.hasFnAttribute(Attribute::AlwaysInline))
         return;
     function.removeFnAttr(Attribute::AlwaysInline);
     function.addFnAttr(Attribute::NoInline);
@@ -48,6 +65,7 @@ void names_put(Module &module) {
         if (DISubprogram *program = function.getSubprogram(); program && !is_made(name_of(program)))
             places.emplace(file_of(program), program->getLine(), name_of(program).str());
     for (Function &function : module) {
+        define_inline(function);
         keep_apart(function);
         DISubprogram *program = function.getSubprogram();
         if (!program || !is_made(name_of(program)))

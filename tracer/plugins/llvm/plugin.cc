@@ -18,8 +18,7 @@
 using namespace llvm;
 
 static bool is_traced(const Function &function) {
-    return !function.isDeclaration() && !function.hasFnAttribute(Attribute::Naked) &&
-           !function.hasFnAttribute(Attribute::DisableSanitizerInstrumentation);
+    return !function.isDeclaration() && !function.hasFnAttribute(Attribute::Naked);
 }
 
 /* Whatever is said of what a function reads and writes, it calls hooks: so no call of it is needless. */
@@ -33,10 +32,13 @@ template <class Code> static void forget_memory(Code &code) {
 #endif
 }
 
-static void forget_memory_of_calls(Function &function) {
+/* Nor does a call say that the function goes into its caller, as the attribute `flatten` has it. */
+static void forget_attributes_of_calls(Function &function) {
     for (Instruction &one : instructions(function))
-        if (auto *call = dyn_cast<CallBase>(&one); call && !isa<IntrinsicInst>(call) && !call->isInlineAsm())
+        if (auto *call = dyn_cast<CallBase>(&one); call && !isa<IntrinsicInst>(call) && !call->isInlineAsm()) {
             forget_memory(*call);
+            call->removeFnAttr(Attribute::AlwaysInline);
+        }
 }
 
 class early : public PassInfoMixin<early> {
@@ -50,7 +52,7 @@ class early : public PassInfoMixin<early> {
                 all.push_back(&function);
         for (Function *function : all) {
             forget_memory(*function);
-            forget_memory_of_calls(*function);
+            forget_attributes_of_calls(*function);
         }
         for (Function *function : all)
             if (is_traced(*function))
@@ -71,7 +73,7 @@ class late : public PassInfoMixin<late> {
                 if (!function.hasOptNone())
                     ranges_put(function, of_functions);
                 frames_put(function);
-                checks_put(function);
+                checks_put(function, of_functions.getResult<BlockFrequencyAnalysis>(function));
             }
         return PreservedAnalyses::none();
     }

@@ -9,7 +9,7 @@ import unittest
 sys.dont_write_bytecode = True
 sys.path.insert(0, os.path.dirname(os.path.dirname(os.path.realpath(__file__))))
 import cases
-from compile import assembly, attributes, plain_lambdas, reducers, steps
+from compile import assembly, attributes, reducers, steps
 from compile.steps import Target
 
 C, CPLUSPLUS, CLANG = Target(False, False, False), Target(True, False, False), Target(False, True, False)
@@ -31,7 +31,6 @@ class TakenTest(unittest.TestCase):
             ("void f(void) { _Cilk_spawn g(); _Cilk_sync; }\n", C, ["Cilk"]),
             (PARALLEL_LOOP, OPENMP, ["OpenMP"]),
             (PARALLEL_LOOP, Target(False, False, False, warns=False), []),
-            ("__attribute__((always_inline)) int f(void);\n", C, ["attributes"]),
             ("int (*f)(int) __attribute__((const));\n", C, []),
             ("int (*f)(int) __attribute__((const));\n", CPLUSPLUS, ["attributes"]),
             ("extern template class basic_string<char>;\n", C, []),
@@ -97,35 +96,20 @@ class AssemblyTest(unittest.TestCase):
 
 
 class AttributesTest(unittest.TestCase):
-    def test_without(self) -> None:
-        for text, wanted in (
-            ("__attribute__((always_inline)) int f(void);", "__attribute__((__unused__)) int f(void);"),
-            ("[[gnu::always_inline]] int f();", "[[gnu::__unused__]] int f();"),
-            ('__attribute__((no_sanitize("thread"))) int f(void);', "__attribute__((__unused__)) int f(void);"),
-            ("int no_sanitize = 1;", "int no_sanitize = 1;"),
-            ('const char *s = "always_inline";', 'const char *s = "always_inline";'),
-            (
-                "#pragma clang attribute push(__attribute__((no_sanitize_thread)))",
-                '#pragma clang attribute push(__attribute__((annotate(""))))',
-            ),
-        ):
-            with self.subTest(text):
-                self.assertEqual(OWN + wanted, attributes.without(OWN + text))
-
     def test_const(self) -> None:
         for text, wanted in (
             ("int (*f)(int) __attribute__((nothrow, const));", "int (*f)(int) __attribute__((nothrow, __unused__));"),
             ("[[gnu::__const__]] int f(int const, const int);", "[[gnu::__unused__]] int f(int const, const int);"),
-            ('auto g = f("(const)", x(const));', 'auto g = f("(const)", x(const));'),
+            ("int f() __attribute__((aligned(alignof(int const))));", None),
+            ('auto g = f("(const)", x(const));', None),
         ):
             with self.subTest(text):
-                self.assertEqual(OWN + wanted, attributes.without(OWN + text, True))
-                self.assertEqual(OWN + text, attributes.without(OWN + text))
+                self.assertEqual(OWN + (wanted or text), attributes.without_const(OWN + text))
 
     def test_system(self) -> None:
-        """The library's functions may be put into each other."""
-        text = SYSTEM + "__attribute__((always_inline)) int f(void);\n"
-        self.assertEqual(text, attributes.without(text))
+        """The library's functions have no hooks."""
+        text = SYSTEM + "int f(int) __attribute__((const));\n"
+        self.assertEqual(text, attributes.without_const(text))
 
 
 class ReducersTest(unittest.TestCase):
@@ -136,33 +120,6 @@ class ReducersTest(unittest.TestCase):
         )
         self.assertEqual("int __attribute__((spbags_reducer)) *view;", reducers.rewritten("int _Hyperobject *view;"))
         self.assertEqual('"_Hyperobject"', reducers.rewritten('"_Hyperobject"'))
-
-
-class LambdasTest(unittest.TestCase):
-    HEADER = '# 1 "/usr/x/spbags/parallel.h"\n# 2 "own.cpp" 2\n'
-
-    def is_plain(self, text: str) -> bool:
-        return "::spbags::plain(" in plain_lambdas.rewritten(f"{self.HEADER}void f() {{ reduce(a, b, 0, {text}); }}\n")
-
-    def test_plain(self) -> None:
-        for text, wanted in (
-            ("[](int x, int y) { return x + y; }", True),
-            ("[](auto x, auto y) { return std::max(x, y); }", True),
-            ("[](int x, int y) { int z = x; return z + y; }", True),
-            ("[](int x, int y) { return x + other; }", False),
-            ("[](int x, int y) { return g(x); }", False),
-            ("[](auto x, auto y) { return x(y); }", False),
-            ("[&](int x, int y) { return x + y; }", False),
-            ("[](int &x, node y) { return x + y; }", False),
-        ):
-            with self.subTest(text):
-                self.assertEqual(wanted, self.is_plain(text))
-
-    def test_headers(self) -> None:
-        """Only in parts of the program itself."""
-        call = "void f() { reduce(a, b, 0, [](int x, int y) { return x + y; }); }\n"
-        text = '# 1 "/usr/x/spbags/parallel.h"\n# 1 "/usr/x/y.h" 1 3\n' + call
-        self.assertEqual(text, plain_lambdas.rewritten(text))
 
 
 if __name__ == "__main__":

@@ -10,7 +10,7 @@
 #include "detail_split.h"
 #include <spbags/parallel.h>
 
-#define SPBAGS_UNTRACED __attribute__((no_sanitize("thread")))
+#define SPBAGS_UNTRACED __attribute__((spbags_untraced))
 
 namespace tbb {
 namespace spbags_detail {

@@ -61,8 +61,8 @@ class task_group {
     bool cancelled = false;
 
     /* What a group keeps for itself is no memory of the program's. */
-    __attribute__((no_sanitize("thread"))) bool is_cancelled() const { return cancelled; }
-    __attribute__((no_sanitize("thread"))) void cancel_rest() { cancelled = true; }
+    __attribute__((spbags_untraced)) bool is_cancelled() const { return cancelled; }
+    __attribute__((spbags_untraced)) void cancel_rest() { cancelled = true; }
     void keep_exception() {
         __spbags_pause(1);
         if (!thrown)
