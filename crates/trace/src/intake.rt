@@ -32,7 +32,7 @@ pub enum Ending {
 pub struct Intake {
     reader: Reader,
     nest: Nest,
-    buffer: [u8; 4096],
+    buffer: [u8; 65536],
     start: usize,
     end: usize,
     // Before this index of the buffer a record is read with no look at the rest: see `IsEasy`.
@@ -72,7 +72,7 @@ impl Intake {
         Intake {
             reader: Reader::new(limits.records),
             nest: Nest::new(limits.depth),
-            buffer: [0; 4096],
+            buffer: [0; 65536],
             start: 0,
             end: 0,
             easy_until: 0,
