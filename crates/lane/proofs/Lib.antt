@@ -1,1 +1,3 @@
 pub mod Marks
+pub mod Shown
+pub mod Taken

@@ -1,10 +1,9 @@
 -- The mark in a list that grows at its end.
-use Rattle.std.proofs.Common.{◌≡◌, ℕ, zero, suc, ◌+◌, arith, ◌-◌, ◌<◌, ◌≤◌, true, false, true≢false, List, [], ◌∷◌, ◌++◌, length, map, take, slice_index_or, sym, refl, ap, subst, ◌∙◌, append-nil, append_assoc}
+use Rattle.std.proofs.Common.{◌≡◌, ℕ, zero, suc, ◌+◌, arith, ◌<◌, true, false, true≢false, List, [], ◌∷◌, ◌++◌, length, map, take, slice_index_or, sym, refl, ap, ◌∙◌, append-nil, append_assoc}
 use Rattle.std.proofs.Math.Seq.{take-suc}
-use Rattle.rtrb.specs.Fifo.{Allowed, EachAllowed}
 use Rattle.lane.specs.declared.item.Item.{Item}
 use Rattle.lane.specs.declared.item.Item.TheVariants.{One, Finish}
-use Rattle.lane.specs.Items.{is_finish, has_mark, mark_last, AllowsAfter, records, IsBeginning}
+use Rattle.lane.specs.Items.{is_finish, has_mark, mark_last, records, IsBeginning}
 
 module _ {T : Type 0} where
   pub has_mark_more : (xs : List (Item T)) (x : Item T) → has_mark xs ≡ false → has_mark (xs ++ x ∷ []) ≡ is_finish x
@@ -59,30 +58,6 @@ module _ {T : Type 0} where
   all_to_mark (Finish ∷ []) last h = refl
   all_to_mark (Finish ∷ x ∷ xs) last h = absurd (true≢false (sym last))
 
-  -- a block that may follow: before its last item stands no mark
-  allowed_last : (before ys : List (Item T)) (x : Item T) → Allowed AllowsAfter before (ys ++ x ∷ []) → has_mark (before ++ ys) ≡ false
-  allowed_last before [] x h = ap has_mark (append-nil before) ∙ h.0
-  allowed_last before (y ∷ ys) x h = ap has_mark (sym (append_assoc before (y ∷ []) ys)) ∙ allowed_last (before ++ y ∷ []) ys x h.1
-
-  ended_at : (before xs : List (Item T)) (m : ℕ) (d : Item T) → m < length xs → Allowed AllowsAfter before (take (suc m) xs) → has_mark (before ++ take (suc m) xs) ≡ is_finish (slice_index_or xs m d)
-  ended_at before xs m d lt h =
-      let cut = take-suc xs m d lt in
-      let P : List (Item T) → Type 0 = Allowed AllowsAfter before in
-      let none = allowed_last before (take m xs) (slice_index_or xs m d) (subst P cut h) in
-      ap (λ l. has_mark (before ++ l)) cut ∙ ap has_mark (sym (append_assoc before (take m xs) (slice_index_or xs m d ∷ []))) ∙ has_mark_more (before ++ take m xs) (slice_index_or xs m d) none
-
-  -- the mark stands in a block where it is the block's last item
-  pub ended_by : (before xs : List (Item T)) (n : ℕ) (d : Item T) → Allowed AllowsAfter before (take n xs) → 0 < n → n ≤ length xs → has_mark (before ++ take n xs) ≡ is_finish (slice_index_or xs (n - 1) d)
-  ended_by before xs n d h pos le =
-      let is : n ≡ suc (n - 1) = omega (arith, pos) in
-      let P : ℕ → Type 0 = λ k. Allowed AllowsAfter before (take k xs) in
-      ap (λ k. has_mark (before ++ take k xs)) is ∙ ended_at before xs (n - 1) d (omega (arith, pos, le)) (subst P is h)
-
-  -- and behind it stands nothing
-  pub mark_last_block : (before ys : List (Item T)) → mark_last before ≡ true → Allowed AllowsAfter before ys → mark_last (before ++ ys) ≡ true
-  mark_last_block before [] last h = ap mark_last (append-nil before) ∙ last
-  mark_last_block before (y ∷ ys) last h = ap mark_last (sym (append_assoc before (y ∷ []) ys)) ∙ mark_last_block (before ++ y ∷ []) ys (mark_last_more before y h.0) h.1
-
   -- a block of values alone may follow where no mark stands, and leaves none
   pub has_mark_block : (before xs : List (Item T)) → has_mark before ≡ false → has_mark xs ≡ false → has_mark (before ++ xs) ≡ false
   has_mark_block [] xs h none = none
@@ -99,21 +74,11 @@ module _ {T : Type 0} where
   no_mark_in (x ∷ xs) = no_mark_in xs
 
   -- and so is a front of it
-  take_values : (xs : List (Item T)) (i : ℕ) → has_mark xs ≡ false → has_mark (take i xs) ≡ false
+  pub take_values : (xs : List (Item T)) (i : ℕ) → has_mark xs ≡ false → has_mark (take i xs) ≡ false
   take_values xs zero h = refl
   take_values [] (suc i) h = refl
   take_values (One x ∷ xs) (suc i) h = take_values xs i h
   take_values (Finish ∷ xs) (suc i) h = absurd (true≢false h)
-
-  pub each_allowed : (before xs : List (Item T)) → has_mark before ≡ false → has_mark xs ≡ false → EachAllowed AllowsAfter before xs
-  each_allowed before xs h none i d lt = has_mark_block before (take i xs) h (take_values xs i none)
-
-  -- what stands in front of an item that may stand there has no mark
-  pub each_allowed_last : (before xs : List (Item T)) → mark_last (before ++ xs) ≡ true → EachAllowed AllowsAfter before xs
-  each_allowed_last before [] h i d lt = absurd (omega (arith, lt))
-  each_allowed_last before (y ∷ ys) h zero d lt = ap has_mark (append-nil before) ∙ no_mark_before before y ys h
-  each_allowed_last before (y ∷ ys) h (suc i) d lt =
-      ap has_mark (sym (append_assoc before (y ∷ []) (take i ys))) ∙ each_allowed_last (before ++ y ∷ []) ys (ap mark_last (append_assoc before (y ∷ []) ys) ∙ h) i d (omega (arith, lt))
 
   -- of two lists, one behind the other: an item more on the second, and the second empty
   pub has_mark_staged : (xs ys : List (Item T)) (x : Item T) → has_mark (xs ++ ys) ≡ false → has_mark (xs ++ (ys ++ x ∷ [])) ≡ is_finish x
@@ -125,9 +90,7 @@ module _ {T : Type 0} where
   pub none_staged : (xs ys : List (Item T)) → ys ≡ [] → xs ++ ys ≡ xs
   none_staged xs ys none = ap (λ l. xs ++ l) none ∙ append-nil xs
 
--- for an item that is put or taken, for a block that is put, and for one that is taken
+-- for an item that is put, and for a block that is put
 pub ruleset of_an_item = (has_mark_more, mark_last_more, has_mark_staged, mark_last_staged, none_staged)
 
 pub ruleset of_values = (has_mark_block, mark_last_values, no_mark_in, none_staged)
-
-pub ruleset of_a_block = (ended_by, mark_last_block)

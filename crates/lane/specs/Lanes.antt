@@ -7,17 +7,24 @@ use denote.RawPtr.{Ptr}
 use Rattle.lane.specs.declared.item.Item.{Item}
 use Rattle.lane.specs.Items.{has_mark}
 
--- a lane, as a value that distinguishes it from each other lane: the place of its ring, and the ring's names
+-- a ring, as a value that distinguishes it from each other ring: its place, and its names
+abbrev pub RingId : Type 0
+RingId = (Ptr × Ptr) × (Names × Global)
+
+abbrev pub ring_of : {T P : Type 0} → End T Global P → RingId
+ring_of end = ((end.words, end.slots), (end.names, end.heap))
+
+-- a lane, as a value that distinguishes it from each other lane: the ring of what is shown, and that of the units
 abbrev pub LaneId : Type 0
-LaneId = (Ptr × Ptr) × (Names × Global)
+LaneId = RingId × RingId
 
--- the lane of this end of its ring
-abbrev pub lane_of_ring : {T P : Type 0} → End T Global P → LaneId
-lane_of_ring end = ((end.words, end.slots), (end.names, end.heap))
+-- the lane of these ends of its rings
+abbrev pub lane_of_rings : {S U P Q : Type 0} → End S Global P → End U Global Q → LaneId
+lane_of_rings ring units = (ring_of ring, ring_of units)
 
--- how many items this lane holds at most, which is among its ring's names
+-- how many items this lane holds at most, which is among the names of the ring of units
 abbrev pub lane_capacity : LaneId → ℕ
-lane_capacity lane = lane.1.0.0
+lane_capacity lane = lane.1.1.0.0
 
 -- one more, in a counter of 64 bits
 abbrev pub one_more : ℕ → ℕ
@@ -48,6 +55,11 @@ pub record TakerState (T : Type 0) : Type 0 where
   pub taken : List (Item T)
   -- the items that the taker knows to wait
   pub waiting : List (Item T)
+  -- those that it could take with no look at the other end; it may not know how many they are
+  pub near : List (Item T)
+  -- what is left of the list in hand, and what was last taken of it at once
+  pub rest : List (Item T)
+  pub list : List (Item T)
 
 module _ {T : Type 0} where
   -- what was put, the mark included

@@ -1,8 +1,8 @@
 -- Promised: how many items a sender stages.
 use Rattle.std.specs.Prelude.{ℕ, ◌/◌, max, min}
-use Rattle.lane.specs.declared.sender.TheConstants.{BLOCK}
+use Rattle.lane.specs.declared.giving.TheConstants.{LIST}
 
--- at most this number on a lane of this capacity: half of the lane, so that one half fills while the other is taken,
--- and no more than a block
+-- at most this number on a lane of this capacity: a quarter of the lane, so that some lists fill while others are taken,
+-- and no more than a list has
 abbrev pub most_staged : ℕ → ℕ
-most_staged capacity = max (min (capacity / 2) BLOCK) 1
+most_staged capacity = max (min (capacity / 4) LIST) 1

@@ -3,8 +3,9 @@ ghost use Rattle.std.specs.Prelude.{◌≡◌, ◌≤◌, [], IfOk};
 ghost use Rattle.dag.specs.Bounds.{IsCapacity};
 ghost use Rattle.lane.specs.Lanes.{put_of};
 
+use crate::giving::Giving;
 use crate::item::MarkLast;
-use crate::sender::{BLOCK, Sender, most_staged};
+use crate::sender::{Sender, most_staged};
 use crate::taker::Taker;
 use dag::NoMemory;
 use rtrb::RingBuffer;
@@ -34,22 +35,44 @@ pub fn lane<T: Copy + Send>(
     ensures capacity { IfOk result (λ r. (r.0.capacity ≡ capacity) × (r.1.capacity ≡ capacity)) }
     ensures room { IfOk result (λ r. r.0.room ≡ capacity) }
 {
-    let staged = Vec::with_capacity(alloc, BLOCK)?;
-    let Ok((sending, taking)) = RingBuffer::with_protocol::<Global, MarkLast>(alloc, capacity)
-    else {
+    let most = most_staged(capacity);
+    let lists = 2 * (capacity / most);
+    let Ok((ring, taking)) = RingBuffer::with_protocol::<Global, MarkLast>(alloc, capacity) else {
         return Err(NoMemory);
     };
+    let Ok((units, taking_units)) = RingBuffer::<()>::new(alloc, capacity) else {
+        return Err(NoMemory);
+    };
+    let Ok((mut giving_back, emptied)) = RingBuffer::new(alloc, lists + 2) else {
+        return Err(NoMemory);
+    };
+    for _ in 0..lists {
+        if giving_back.push(Vec::with_capacity(alloc, most)?).is_err() {
+            return Err(NoMemory);
+        }
+    }
     let sender = Sender {
-        ring: sending,
+        giving: Giving {
+            ring,
+            units,
+            emptied,
+        },
         marked: false,
-        staged,
-        most: most_staged(capacity),
+        staged: Vec::with_capacity(alloc, most)?,
+        most,
         limit: 0,
         refusals: 0,
     };
     let taker = Taker {
         ring: taking,
-        ended: false,
+        units: taking_units,
+        emptied: giving_back,
+        list: Vec::with_capacity(alloc, most)?,
+        from: 0,
+        at: 0,
+        owed: 0,
+        known: 0,
+        last: false,
     };
     Ok((sender, taker))
 }

@@ -1,6 +1,7 @@
 //! The items of a lane.
 ghost use Rattle.std.specs.Prelude.{◌≡◌};
 ghost use Rattle.lane.specs.Items.{is_finish};
+ghost use Rattle.lane.specs.Slots.{is_mark};
 
 use rtrb::Protocol;
 
@@ -19,11 +20,26 @@ impl<T> Item<T> {
     }
 }
 
+/// What the taker is shown at once: an item, or a list of items.
+#[derive(Drop)]
+pub enum Slot<T> {
+    Single(Item<T>),
+    Several(Vec<Item<T>>),
+}
+
+impl<T> Slot<T> {
+    pub(crate) fn is_mark(&self) -> bool
+        ensures { result ≡ is_mark self.now }
+    {
+        matches!(self, Slot::Single(Item::Finish))
+    }
+}
+
 /// Nothing follows the mark.
 pub struct MarkLast;
 
-impl<T> Protocol<Item<T>> for MarkLast {
-    ghost use Rattle.lane.specs.Items.{AllowsAfter};
+impl<T> Protocol<Slot<T>> for MarkLast {
+    ghost use Rattle.lane.specs.Slots.{AllowsSlot};
 
-    ghost allows = { AllowsAfter };
+    ghost allows = { AllowsSlot };
 }

@@ -2,6 +2,7 @@
 #![tactic(auto)]
 
 mod ends;
+mod giving;
 mod item;
 mod sender;
 mod taker;

@@ -1,15 +1,16 @@
 //! The end of a lane that puts, and its receipt.
 ghost use Rattle.std.specs.Prelude.{◌≡◌, ◌+◌, ◌<◌, ◌≤◌, true, false, [], ◌∷◌, ◌++◌, length, map, vec_len, vec_capacity};
 ghost use Rattle.std.specs.Prelude.{is_ok, IsTrue, IsFalse, IfErr, IfNone, IfSome, OnOk};
-ghost use Rattle.rtrb.specs.Ring.{sent, known_free, producer_capacity, SameProducer, ProducerLooked};
+ghost use Rattle.rtrb.specs.Ring.{producer_capacity};
 ghost use Rattle.lane.specs.declared.sender.TheConstants.{BLOCK};
 ghost use Rattle.lane.specs.declared.item.Item.TheVariants.{One, Finish};
 ghost use Rattle.lane.specs.Items.{has_mark, mark_last};
+ghost use Rattle.lane.specs.Given.{items_sent, room_in, SameGiving};
+ghost use Rattle.lane.specs.declared.giving.TheConstants.{LIST};
 ghost use Rattle.lane.specs.Staging.{most_staged};
 
-use crate::item::{Item, MarkLast};
-use rtrb::Producer;
-use std::alloc::Global;
+use crate::giving::{Giving, LIST};
+use crate::item::Item;
 use std::marker::Model;
 
 /// The greatest number of values in a block.
@@ -19,7 +20,7 @@ pub const BLOCK: usize = 64;
 /// look at what another has just written takes longer than all else in a put.
 #[derive(Drop)]
 pub struct Sender<T> {
-    pub(crate) ring: Producer<Item<T>, Global, MarkLast>,
+    pub(crate) giving: Giving<T>,
     pub(crate) marked: bool,
     // what is put and not shown yet
     pub(crate) staged: Vec<Item<T>>,
@@ -29,29 +30,31 @@ pub struct Sender<T> {
     pub(crate) limit: usize,
     // how often a put was refused; it wraps around
     pub(crate) refusals: u64,
-    ghost memory: { BLOCK ≤ vec_capacity staged },
-    ghost most_is: { most ≡ most_staged (producer_capacity ring) },
-    ghost limit_within: { (limit ≤ most) × (limit ≤ known_free ring) },
+    ghost memory: { most ≤ vec_capacity staged },
+    ghost most_is: { most ≡ most_staged (producer_capacity giving.units) },
+    ghost limit_within: { (limit ≤ most) × (limit ≤ room_in giving) },
     ghost staged_within: { vec_len staged ≤ limit },
     ghost below: { 1 ≤ limit → vec_len staged < limit },
-    ghost known: { has_mark (sent ring ++ staged.items) ≡ marked },
-    ghost last: { mark_last (sent ring ++ staged.items) ≡ true },
+    ghost known: { has_mark (items_sent giving ++ staged.items) ≡ marked },
+    ghost last: { mark_last (items_sent giving ++ staged.items) ≡ true },
+    ghost none_behind: { IsTrue marked → vec_len staged ≡ 0 },
 }
 
 impl<T> Model for Sender<T> {
     ghost use Rattle.std.specs.Prelude.{◌-◌, length};
-    ghost use Rattle.rtrb.specs.Ring.{sent, known_free, producer_capacity};
-    ghost use Rattle.lane.specs.Lanes.{SenderState, lane_of_ring};
+    ghost use Rattle.rtrb.specs.Ring.{producer_capacity};
+    ghost use Rattle.lane.specs.Lanes.{SenderState, lane_of_rings};
+    ghost use Rattle.lane.specs.Given.{items_sent, room_in};
 
     ghost Value = { SenderState T };
 
     ghost view = { λ s. record {
-      lane = lane_of_ring s.ring.end;
-      capacity = producer_capacity s.ring;
-      of_lane = s.ring.writes.2;
-      shown = sent s.ring;
+      lane = lane_of_rings s.giving.ring.end s.giving.units.end;
+      capacity = producer_capacity s.giving.units;
+      of_lane = s.giving.units.writes.2;
+      shown = items_sent s.giving;
       staged = s.staged.items;
-      room = known_free s.ring - length s.staged.items;
+      room = room_in s.giving - length s.staged.items;
       refusals = s.refusals;
     } };
 }
@@ -76,7 +79,7 @@ impl<T: Copy + Send> Sender<T> {
     /// Puts the value behind those put before, or hands it back if the lane is full, when the taker is shown all items
     /// put. It shows values to the taker together: at the latest when `most_staged` of them are staged, or in `flush`.
     #[inline(always)]
-    #[tactic(auto, using(crate::proofs::Marks::of_an_item))]
+    #[tactic(auto, using(crate::proofs::Marks::of_an_item, crate::proofs::Shown::of_a_refusal))]
     pub fn put(&mut self, value: T) -> Result<(), T>
         requires { IsUnmarked self.old }
         ensures lane { SameSender self.old self.new }
@@ -93,7 +96,7 @@ impl<T: Copy + Send> Sender<T> {
         if self.staged.len() < self.limit {
             return Ok(());
         }
-        match show(&mut self.ring, &mut self.staged, self.limit, self.most) {
+        match show(&mut self.giving, &mut self.staged, self.limit, self.most) {
             Some(limit) => {
                 self.limit = limit;
                 Ok(())
@@ -115,8 +118,8 @@ impl<T: Copy + Send> Sender<T> {
         ensures refusals { self.new.refusals ≡ self.old.refusals }
     {
         if !self.staged.is_empty() {
-            let shown = show(&mut self.ring, &mut self.staged, self.limit, self.most);
-            self.limit = shown.unwrap_or(0);
+            self.giving.show(&mut self.staged);
+            self.limit = self.giving.room().min(self.most);
         }
     }
 
@@ -137,18 +140,21 @@ impl<T: Copy + Send> Sender<T> {
         ensures refusals { CountsRefusal result self.old self.new }
     {
         self.flush();
-        wrap(&mut self.staged, values);
-        let put = self.ring.push_entire_slice(&self.staged).is_ok();
-        self.staged.clear();
-        self.limit = 0;
-        if !put {
+        if !self.giving.has_room_for(values.len()) {
             self.refusals = self.refusals.wrapping_add(1);
+            return false;
         }
-        put
+        for value in values {
+            let Ok(()) = self.put(*value) else {
+                unreachable!()
+            };
+        }
+        self.flush();
+        true
     }
 
     /// Puts the mark, which takes a place too; false if the lane is full. It shows the taker all items put.
-    #[tactic(auto, using(crate::proofs::Marks::of_an_item))]
+    #[tactic(auto, using(crate::proofs::Marks::of_an_item, crate::proofs::Shown::of_a_refusal))]
     pub fn mark(&mut self) -> bool
         requires { IsUnmarked self.old }
         ensures lane { SameSender self.old self.new }
@@ -161,11 +167,11 @@ impl<T: Copy + Send> Sender<T> {
         ensures refusals { CountsRefusal result self.old self.new }
     {
         self.flush();
-        if self.ring.is_full() {
+        if self.giving.is_full() {
             self.refusals = self.refusals.wrapping_add(1);
             return false;
         }
-        self.ring.push_reserved(Item::Finish);
+        self.giving.show_mark();
         self.limit = 0;
         self.marked = true;
         true
@@ -176,14 +182,14 @@ impl<T: Copy + Send> Sender<T> {
     pub fn room(&self) -> usize
         ensures { result ≡ self.now.room }
     {
-        self.ring.cached_slots() - self.staged.len()
+        self.giving.room() - self.staged.len()
     }
 
     /// The greatest number of items in the lane.
     pub fn capacity(&self) -> usize
         ensures { result ≡ self.now.capacity }
     {
-        self.ring.capacity()
+        self.giving.units.capacity()
     }
 
     /// Whether the mark has been put.
@@ -209,7 +215,7 @@ impl<T: Copy + Send> Sender<T> {
 pub(crate) fn most_staged(capacity: usize) -> usize
     ensures { result ≡ most_staged capacity }
 {
-    (capacity / 2).min(BLOCK).max(1)
+    (capacity / 4).min(LIST).max(1)
 }
 
 // Shows the taker what is staged, and says how many items may be staged next. If the limit is 0 it first looks at the
@@ -218,52 +224,40 @@ pub(crate) fn most_staged(capacity: usize) -> usize
 #[cold]
 #[inline(never)]
 fn show<T: Copy + Send>(
-    ring: &mut Producer<Item<T>, Global, MarkLast>,
+    giving: &mut Giving<T>,
     staged: &mut Vec<Item<T>>,
     limit: usize,
     most: usize,
 ) -> Option<usize>
-    requires some { 1 ≤ limit → vec_len staged.old ≤ known_free ring.old }
+    requires some { 1 ≤ vec_len staged.old }
+    requires enough { 1 ≤ limit → vec_len staged.old ≤ room_in giving.old }
     requires one { limit ≡ 0 → vec_len staged.old ≡ 1 }
-    requires last { mark_last (sent ring.old ++ staged.old.items) ≡ true }
-    requires most { 1 ≤ most }
-    ensures ring { SameProducer ring.old ring.new }
-    ensures memory { vec_capacity staged.new ≡ vec_capacity staged.old }
-    ensures put { IfSome result (λ _. sent ring.new ++ staged.new.items ≡ sent ring.old ++ staged.old.items) }
+    requires unmarked { has_mark (items_sent giving.old ++ staged.old.items) ≡ false }
+    requires most { (1 ≤ most) × (most ≤ LIST) }
+    requires within { vec_len staged.old ≤ most }
+    ensures same { SameGiving giving.old giving.new }
+    ensures memory { vec_capacity staged.old ≤ vec_capacity staged.new }
+    ensures put { IfSome result
+        (λ _. items_sent giving.new ++ staged.new.items ≡ items_sent giving.old ++ staged.old.items) }
     ensures shown { 1 ≤ limit → staged.new.items ≡ [] }
-    ensures room { IfSome result
-        (λ _. known_free ring.old + vec_len staged.new ≤ known_free ring.new + vec_len staged.old) }
-    ensures within { IfSome result (λ limit. (limit ≤ most) × (limit ≤ known_free ring.new)) }
+    ensures room { IfSome result (λ _. room_in giving.old + vec_len staged.new ≤ room_in giving.new + vec_len staged.old) }
+    ensures within { IfSome result (λ limit. (limit ≤ most) × (limit ≤ room_in giving.new)) }
     ensures below { IfSome result (λ limit. (vec_len staged.new ≤ limit) × (1 ≤ limit → vec_len staged.new < limit)) }
     ensures less { IfSome result (λ _. vec_len staged.new < most) }
-    ensures full { IfNone result ((limit ≡ 0) × (known_free ring.new ≡ 0) × (known_free ring.old ≡ 0)) }
-    ensures none_staged { IfNone result ((sent ring.new ≡ sent ring.old) × (staged.new.items ≡ [])) }
+    ensures full { IfNone result ((limit ≡ 0) × (room_in giving.new ≡ 0) × (room_in giving.old ≡ 0)) }
+    ensures filled { IfNone result (producer_capacity giving.new.units ≤ length (items_sent giving.new)) }
+    ensures none_staged { IfNone result ((items_sent giving.new ≡ items_sent giving.old) × (staged.new.items ≡ [])) }
 {
     if limit == 0 {
-        if ring.is_full() {
+        if giving.is_full() {
             staged.clear();
             return None;
         }
-        let limit = ring.cached_slots().min(most);
+        let limit = giving.room().min(most);
         if staged.len() < limit {
             return Some(limit);
         }
     }
-    if ring.push_entire_slice(staged).is_err() {
-        unreachable!()
-    }
-    staged.clear();
-    Some(ring.cached_slots().min(most))
-}
-
-// Makes items of the values, and keeps nothing else.
-fn wrap<T: Copy>(items: &mut Vec<Item<T>>, values: &[T])
-    requires { length values.now ≤ vec_capacity items.old }
-    ensures items { items.new.items ≡ map One values.now }
-    ensures capacity { vec_capacity items.new ≡ vec_capacity items.old }
-{
-    items.clear();
-    for value in values {
-        items.push_reserved(Item::One(*value));
-    }
+    giving.show(staged);
+    Some(giving.room().min(most))
 }

@@ -10,7 +10,7 @@ use crate::gate::Gate;
 use crate::shard::Shard;
 use crate::worker::Worker;
 use dag::Placed;
-use lane::{BLOCK, End, Item, Sender, Taker};
+use lane::{End, Sender, Taker};
 use std::hash::BuildHasher;
 use std::sync::Wait;
 use std::time::Clock;
@@ -65,10 +65,9 @@ pub fn work<R: Wait + Clock, S: BuildHasher + Drop, G: Gate>(
         back,
         stopped: false,
     };
-    let mut block = [Item::Finish; BLOCK];
     for _ in rt.forever() {
-        let count = taker.take_block(&mut block);
-        worker.apply_block(rt, gate, &block[..count]);
+        let count = taker.take_list();
+        worker.apply_block(rt, gate, taker.list());
         if taker.ended() {
             let Worker {
                 shard,

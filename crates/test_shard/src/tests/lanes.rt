@@ -174,7 +174,7 @@ fn flush_shows_all(rt: HostRuntime) -> Result<(), Fail> {
 }
 
 #[test]
-fn half_of_a_lane_is_shown_without_a_flush(rt: HostRuntime) -> Result<(), Fail> {
+fn a_quarter_of_a_lane_is_shown_without_a_flush(rt: HostRuntime) -> Result<(), Fail> {
     let (mut sender, mut taker) = lane::<u32>(rt.alloc(), 8)?;
     puts(&rt, &mut sender, 1, Ok(()));
     puts(&rt, &mut sender, 2, Ok(()));
