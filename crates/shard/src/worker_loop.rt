@@ -29,8 +29,8 @@ pub struct Worked<S: BuildHasher + Drop> {
 
 /// Runs a shard on the records of a lane up to the mark, and puts its races on the lane back.
 ///
-/// It takes a block of records at a time. Each record passes the gate before the shard applies it. Each race goes on
-/// the lane back; if that is full the worker tries again, and at the end of the block it shows the races. After a
+/// It takes a list of records at a time. Each record passes the gate before the shard applies it. Each race goes on
+/// the lane back; if that is full the worker tries again, and behind the list it shows the races. After a
 /// refused growth it puts `Back::NoMemory` once, applies nothing more, and goes on taking. At the mark it marks the
 /// lane back. The shard applies neither a record that it doesn't accept nor any after it; it accepts every record of
 /// a share.
