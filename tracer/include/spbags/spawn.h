@@ -22,8 +22,12 @@ int __spbags_left_child(const volatile void *__function, unsigned long __size, c
 }
 
 #if __cplusplus >= 201103L
-/* What such a function does isn't in the trace. */
+/* What such a function does isn't in the trace. By clang no C++ spawns. */
+#ifdef __clang__
+#define __SPBAGS_OUTSIDE __attribute__((__noinline__))
+#else
 #define __SPBAGS_OUTSIDE __attribute__((__spbags_untraced__, __noinline__))
+#endif
 #define __SPBAGS_CODE __builtin_return_address(0)
 
 /* The end of a child, also by an exception. */

@@ -51,9 +51,12 @@ static void define_inline(Function &function) {
         function.setLinkage(GlobalValue::WeakAnyLinkage);
 }
 
-/* One that spawns and is put into its caller would have no end to sync at. */
+/* One that spawns and is put into its caller would have no end to sync at. Those of the compiler's headers have no place,
+   and some that it makes itself for OpenMP neither. */
 static void keep_apart(Function &function) {
-    if (is_of_system(function.getSubprogram()) || !function.hasFnAttribute(Attribute::AlwaysInline))
+    const DISubprogram *program = function.getSubprogram();
+    bool is_of_program = program ? !is_of_system(program) : is_made(function.getName());
+    if (!is_of_program || !function.hasFnAttribute(Attribute::AlwaysInline))
         return;
     function.removeFnAttr(Attribute::AlwaysInline);
     function.addFnAttr(Attribute::NoInline);

@@ -73,6 +73,7 @@ class late : public PassInfoMixin<late> {
                 if (!function.hasOptNone())
                     ranges_put(function, of_functions);
                 frames_put(function);
+                of_functions.invalidate(function, PreservedAnalyses::none());
                 checks_put(function, of_functions.getResult<BlockFrequencyAnalysis>(function));
             }
         return PreservedAnalyses::none();
