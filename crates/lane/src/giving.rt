@@ -1,5 +1,6 @@
 //! The sender's end of what a lane is made of.
-ghost use Rattle.std.specs.Prelude.{◌≡◌, ◌+◌, ◌≤◌, ◌↔◌, true, false, [], ◌∷◌, ◌++◌, length, IsTrue, vec_len, vec_capacity};
+ghost use Rattle.std.specs.Prelude.{◌≡◌, ◌+◌, ◌≤◌, ◌↔◌, true, false, [], ◌∷◌, ◌++◌, length, IsTrue};
+ghost use Rattle.std.specs.Prelude.{vec_len, vec_capacity};
 ghost use Rattle.rtrb.specs.Ring.{sent, known_free, producer_capacity, SameProducer};
 ghost use Rattle.lane.specs.declared.giving.TheConstants.{LIST};
 ghost use Rattle.lane.specs.Items.{has_mark};

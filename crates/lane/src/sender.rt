@@ -240,7 +240,8 @@ fn show<T: Copy + Send>(
     ensures put { IfSome result
         (λ _. items_sent giving.new ++ staged.new.items ≡ items_sent giving.old ++ staged.old.items) }
     ensures shown { 1 ≤ limit → staged.new.items ≡ [] }
-    ensures room { IfSome result (λ _. room_in giving.old + vec_len staged.new ≤ room_in giving.new + vec_len staged.old) }
+    ensures room { IfSome result
+        (λ _. room_in giving.old + vec_len staged.new ≤ room_in giving.new + vec_len staged.old) }
     ensures within { IfSome result (λ limit. (limit ≤ most) × (limit ≤ room_in giving.new)) }
     ensures below { IfSome result (λ limit. (vec_len staged.new ≤ limit) × (1 ≤ limit → vec_len staged.new < limit)) }
     ensures less { IfSome result (λ _. vec_len staged.new < most) }

@@ -1,7 +1,8 @@
 //! The end of a lane that takes.
 ghost use Rattle.std.specs.Prelude.{◌≡◌, ◌+◌, ◌-◌, ◌%◌, ◌^◌, ◌<◌, ◌≤◌, min, true, false, [], ◌∷◌, ◌++◌};
 ghost use Rattle.std.specs.Prelude.{length, take, drop, vec_len, vec_capacity, IfSome, IfNone, IsSome, IsTrue, IsFalse};
-ghost use Rattle.rtrb.specs.Ring.{sent, producer_capacity, received, known_items, consumer_capacity, IsPair, SameConsumer};
+ghost use Rattle.rtrb.specs.Ring.{sent, producer_capacity, received, known_items, consumer_capacity, IsPair};
+ghost use Rattle.rtrb.specs.Ring.{SameConsumer};
 ghost use Rattle.lane.specs.Given.{items_sent, room_in, HasLooked};
 ghost use Rattle.lane.specs.Items.{has_mark, mark_last, IsBeginning};
 ghost use Rattle.lane.specs.Slots.{items_in, all_items, HasItem, taken_before, HoldsRest};
