@@ -4,7 +4,6 @@ goes to its user's cache. In the repository all stand beside the tracer, if that
 from __future__ import annotations
 
 import os
-import sys
 from collections.abc import Callable, Iterable
 
 from installation import HERE, IS_INSTALLED
@@ -19,12 +18,6 @@ def folder(ahead: bool = False) -> str:
     """Where what is made is kept, ahead for all users or by the way."""
     is_ours = os.access(BESIDE if os.path.exists(BESIDE) else HERE, os.W_OK)
     return BESIDE if is_ours and (ahead or not IS_INSTALLED) else CACHE
-
-
-def keep_modules() -> None:
-    """Has the modules that come now read from what was compiled before: else a command takes as long again."""
-    sys.pycache_prefix = os.path.join(folder(), "modules")
-    sys.dont_write_bytecode = False
 
 
 def digest(about: object, files: Iterable[str]) -> str:

@@ -7,6 +7,8 @@ import itertools
 import re
 from collections.abc import Iterable, Iterator
 
+from line_markers import Files
+
 TOKEN = re.compile(
     r"(?P<marker>^\#[^\n]*\n)"
     r"|(?P<space>[ \t\f\v\r]+|\n)"
@@ -19,7 +21,6 @@ TOKEN = re.compile(
     r"|(?P<mark><%|%>|<:(?!:[^:>])|:>|\.\.\.|<<=|>>=|->|\+\+|--|<<|>>|[-+*/%&|^=!<>]=|&&|::|\|\||.)",
     re.MULTILINE,
 )
-LINE_MARKER = re.compile(r'#(?:line)? *([0-9]+) *("(?:\\.|[^"\\])*")?([ 0-9]*)')
 ASSIGNMENTS = {"=", "+=", "-=", "*=", "/=", "%=", "&=", "|=", "^=", "<<=", ">>="}
 PARTNERS = {")": "(", "]": "[", "}": "{"}
 DIGRAPHS = {"<%": "{", "%>": "}", "<:": "[", ":>": "]"}
@@ -51,49 +52,53 @@ class Refused(Exception):
 
 
 class Token:
-    __slots__ = ("kind", "text", "start", "file", "line", "system", "end", "partner", "around")
+    __slots__ = ("kind", "text", "start", "end", "files", "partner", "around")
 
-    def __init__(self, kind: str, text: str, start: int, file: str, line: int, system: bool) -> None:
-        self.kind, self.text, self.start, self.file, self.line = kind, DIGRAPHS.get(text, text), start, file, line
-        self.system = system  # whether it stands in a header of the system
+    def __init__(self, kind: str, text: str, start: int, files: Files) -> None:
+        self.kind, self.text, self.start, self.files = kind, DIGRAPHS.get(text, text), start, files
         self.end = start + len(text)
         self.partner: Any = None  # of a bracket: the index of the other one, or None
         self.around: Any = None  # the index of the innermost bracket around it, or None
 
+    @property
+    def line(self) -> int:
+        return self.files.place(self.start)[1]
+
+    def where(self) -> str:
+        """Its line in the source."""
+        return "{}:{}".format(*self.files.place(self.start))
+
+    def is_of_system(self) -> bool:
+        """Whether it stands in a header of the system."""
+        return self.files.at(self.start)[1]
+
     def marker(self, flags: str = "") -> str:
         """Puts what follows on this token's line of the program."""
-        return f"\n# {self.line} {self.file}{flags}\n"
+        name, line = self.files.place(self.start)
+        return f'\n# {line} "{name}"{flags}\n'
 
     def place(self) -> str:
         """Its line in the source, and its column there, as a compiler counts it, if the line has the word once."""
-        name = self.file[1:-1]
+        name, number = self.files.place(self.start)
         try:
             with open(name, encoding="utf-8", errors="replace") as source:
-                line = next(itertools.islice(source, self.line - 1, None), "")
+                line = next(itertools.islice(source, number - 1, None), "")
         except OSError:
             line = ""
         word = re.escape(self.text).replace("_Cilk_", "_?[cC]ilk_", 1)
         found = [match.start() for match in re.finditer(rf"\b{word}\b", line)]
-        return f"{name}:{self.line}" + (f":{len(line[:found[0]].expandtabs()) + 1}" if len(found) == 1 else "")
+        return f"{name}:{number}" + (f":{len(line[:found[0]].expandtabs()) + 1}" if len(found) == 1 else "")
 
 
 def tokens_of(text: str, parts: Iterable[tuple[int, int]] | None = None) -> list[Token]:
-    """The tokens of C, each with its line of the program; of these parts of the text alone, each of which begins with a
-    line that names a file."""
-    tokens: list[Token] = []
-    file, line, system = '"?"', 1, False
-    for match in itertools.chain.from_iterable(TOKEN.finditer(text, *part) for part in parts or [(0, len(text))]):
-        kind, found = match.lastgroup or "", match.group()
-        if kind == "marker":
-            numbered = LINE_MARKER.match(found)
-            line = int(numbered[1]) if numbered else line + 1
-            if numbered and numbered[2]:
-                file, system = numbered[2], "3" in numbered[3].split()
-        elif kind == "space":
-            line += found == "\n"
-        else:
-            tokens.append(Token(kind, found, match.start(), file, line, system))
-            line += found.count("\n")
+    """The tokens of C; of these parts of the text alone, each of which begins with a line that names a file."""
+    files = Files(text)
+    tokens = [
+        Token(match.lastgroup or "", match.group(), match.start(), files)
+        for start, end in parts or [(0, len(text))]
+        for match in TOKEN.finditer(text, start, end)
+        if match.lastgroup not in ("marker", "space")
+    ]
     match_brackets(tokens)
     return tokens
 
@@ -196,16 +201,16 @@ def statement_start(tokens: list[Token], spawn: int) -> int:
     return first
 
 
-def after_postfixes(tokens: list[Token], at: int) -> tuple[int, int | None]:
-    """The end of the operators `(..)`, `[..]`, `.x` and `->x` from here on, and the last of them."""
-    last = None
-    while at < len(tokens):
-        text = tokens[at].text
-        if text not in ("(", "[", ".", "->") or (text in ("(", "[") and tokens[at].partner is None):
+def after_postfixes(tokens: list[Token], at: int) -> tuple[int, list[int]]:
+    """The end of the operators `(..)`, `[..]`, `.x` and `->x` from here on, and where each begins."""
+    found = []
+    while at < len(tokens) and tokens[at].text in ("(", "[", ".", "->"):
+        is_bracket = tokens[at].text in ("(", "[")
+        if is_bracket and tokens[at].partner is None:
             break
-        last = at
-        at = tokens[at].partner + 1 if text in ("(", "[") else at + 2
-    return at, last
+        found.append(at)
+        at = tokens[at].partner + 1 if is_bracket else at + 2
+    return at, found
 
 
 def call_after(tokens: list[Token], before: int) -> int | None:
@@ -217,8 +222,16 @@ def call_after(tokens: list[Token], before: int) -> int | None:
         at = before + 2
     else:
         return None
-    end, last = after_postfixes(tokens, at)
-    return last if last is not None and tokens[last].text == "(" and tokens[end].text == ";" else None
+    end, operators = after_postfixes(tokens, at)
+    is_call = operators and tokens[operators[-1]].text == "(" and tokens[end].text == ";"
+    return operators[-1] if is_call else None
+
+
+def after_lambda(tokens: list[Token], at: int) -> int | None:
+    """The token behind a lambda that begins here, or None."""
+    while at < len(tokens) and tokens[at].text not in ("{", "}", ";", ")", "]", "="):
+        at = tokens[at].partner + 1 if tokens[at].text in ("(", "[") and tokens[at].partner else at + 1
+    return tokens[at].partner + 1 if at < len(tokens) and tokens[at].text == "{" and tokens[at].partner else None
 
 
 def after_angles(tokens: list[Token], at: int) -> int | None:
@@ -271,8 +284,8 @@ def is_lvalue(tokens: list[Token], first: int, end: int) -> bool:
     """Whether these tokens name memory, as `*a[i].x` does; otherwise they declare a variable."""
     if tokens[first].text in ("*", "("):
         return True
-    stop, last = after_postfixes(tokens, first + 1)
-    return stop == end and (last is None or tokens[last].text != "(")
+    stop, operators = after_postfixes(tokens, first + 1)
+    return stop == end and not (operators and tokens[operators[-1]].text == "(")
 
 
 class Construct:

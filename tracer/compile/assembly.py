@@ -4,7 +4,7 @@ from __future__ import annotations
 
 import re
 
-from compile.line_markers import Files
+from line_markers import Files
 from tokens import BRACKET, CONTROLS, PARTNERS, after_bracket, blanked
 
 ASM = re.compile(

@@ -5,7 +5,7 @@ from __future__ import annotations
 import re
 from collections.abc import Iterator
 
-from compile.line_markers import Files
+from line_markers import Files
 from tokens import after_bracket, blanked, replaced
 
 ATTRIBUTE = re.compile(r"(?<![\w$])__attribute(?:__)?\s*\(|\[(?=\s*\[)")

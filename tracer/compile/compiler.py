@@ -26,6 +26,8 @@ ALIGNED, ALIGNED_CLANG = "-Wa,-mbranches-within-32B-boundaries", "-mbranches-wit
 STACK_GCC = "-fno-ipa-icf -mno-accumulate-outgoing-args -mno-red-zone -fno-combine-stack-adjustments -fno-defer-pop"
 TRACED_GCC = [*PLAIN, "-fstack-reuse=none", *STACK_GCC.split()]
 TRACED_CLANG = [*PLAIN, "-mllvm", "-no-stack-coloring", "-Qunused-arguments"]
+# With OpenMP clang has to say where a variable's life ends, which else it does where it optimizes.
+LIVES_CLANG = ["-Xclang", "-fsanitize-address-use-after-scope"]
 COMPILERS = [["g++"], ["clang++"]] if IS_CPLUSPLUS else [["gcc"], ["clang"]]
 # What each source asks for, and what the hooks define. No tool takes it out of an object.
 MARK = "__spbags_traced"
@@ -97,8 +99,7 @@ class Compiler:
             print("\n".join(faults), file=sys.stderr)
             sys.exit(1)
         write(text_name, text + MARKED)
-        openmp = ["-fopenmp"] if steps.has_tasks(text) else self.words.openmp
-        self.compile_rewritten(text_name, openmp, self.words.ends_with or "-c", object_name, folder)
+        self.compile_rewritten(text_name, steps.has_tasks(text), self.words.ends_with or "-c", object_name, folder)
 
     def steps_of(self, source: str, folder: str) -> list[str]:
         """A line for each step that the source takes."""
@@ -110,14 +111,18 @@ class Compiler:
         rewritten = [f"{step.name}: {step.rewrite.__doc__}" for step, *_ in steps.taken(text, self.target)]
         return ["preprocess: with the tracer's headers", *rewritten, "compile: a plugin puts hooks into the code"]
 
-    def compile_rewritten(self, text_name: str, openmp: list[str], ends_with: str, to: str | None, folder: str) -> None:
-        """Compiles a rewritten source into what ends here. The plugin puts the hooks into its code."""
+    def compile_rewritten(self, text_name: str, has_tasks: bool, ends_with: str, to: str | None, folder: str) -> None:
+        """Compiles a rewritten source into what ends here. The plugin puts the hooks into its code. Tasks stand for
+        Cilk's children, whatever the command says of OpenMP."""
         from compile import plugin
 
+        openmp = ["-fopenmp"] if has_tasks else self.words.openmp
+        lives = bool(openmp) and not has_tasks
         command = [*self.command, *self.words.compiling, *openmp, self.words.level]
         command += TRACED_CLANG if self.is_clang else TRACED_GCC
+        command += LIVES_CLANG if self.is_clang and lives else []
         checks = self.words.inline_checks and bool(to)
-        command += plugin.options(self.plugin(folder), self.is_clang, checks)
+        command += plugin.options(self.plugin(folder), self.is_clang, checks, lives)
         command += [self.aligned, "-Wa,--no-warn"] if checks else []
         run(*command, ends_with, text_name, *(["-o", to] if to else []))
 

@@ -3,7 +3,6 @@ from __future__ import annotations
 
 import functools
 import os
-import re
 
 import cache
 from compile import link_inputs
@@ -15,8 +14,8 @@ from installation import ARCHIVE, CRATES, HERE, IS_INSTALLED
 
 # What the hooks define in place of the library.
 OWN = set("malloc calloc realloc free aligned_alloc memalign valloc pvalloc posix_memalign malloc_usable_size".split())
-# The other names that the hooks define for programs and for the detector.
-FOR_PROGRAMS = re.compile("_|GOMP_|omp_|rattle_")
+# How the other names begin that the hooks define for programs and for the detector.
+FOR_PROGRAMS = ("_*", "GOMP_*", "omp_*", "rattle_*")
 # What the objects depend on, beside the sources.
 BESIDE = ("spbags_cilk.h", "include/spbags_inside.h", "library.table", "compile/library.py", "compile/hooks.py")
 # Proves and builds the detector's library from its crate.
@@ -79,9 +78,8 @@ class Hooks:
 
         from compile import library
 
-        table = library.Table()
-        for name, text in (("library_names.h", table.declarations()), ("library_wrappers.h", table.wrappers())):
-            write(os.path.join(self.folder, name), text)
+        write(os.path.join(self.folder, "library_names.h"), library.declarations())
+        write(os.path.join(self.folder, "library_wrappers.h"), library.wrappers())
         names = [name for name in files_of_hooks() if name.endswith(".c")]
         if not self.words.openmp:
             names = [name for name in names if not name.startswith("hooks/openmp/")]
@@ -92,11 +90,11 @@ class Hooks:
         # What the compiler itself calls there is no call of the program. The hooks know their code by a section. And
         # where code comes from has a stub, also if the hooks see what is read there. The names by which the hooks'
         # files know each other are none of the program's.
-        inner = {name for name in link_inputs.names_of(made) if not FOR_PROGRAMS.match(name)} - OWN
         run(
             "objcopy",
+            "--wildcard",
             *[f"--weaken-symbol=__wrap_{name}" for name in link_inputs.GIVES_CODE],
-            *[f"--localize-symbol={name}" for name in sorted(inner)],
+            *[f"--keep-global-symbol={name}" for name in (*FOR_PROGRAMS, *sorted(OWN))],
             *[f"--redefine-sym={name}=__real_{name}" for name in ("memcpy", "memmove", "memset")],
             *[f"--rename-section=.text{part}={HOOKS}" for part in ("", ".unlikely", ".startup", ".exit")],
             made,

@@ -1,6 +1,7 @@
 """What library.table says, as the hooks' wrappers in C."""
 from __future__ import annotations
 
+import functools
 import os
 import re
 
@@ -130,71 +131,44 @@ def items_of(field: str) -> list[list[str]]:
     return [split_at(",", item) for item in split_at(";", field) if item]
 
 
-class Section:
-    """What stands below a heading of the table: rows, or words behind a sign."""
+@functools.cache
+def lines() -> list[str]:
+    """Those of the table that have functions."""
+    with open(TABLE, encoding="utf-8") as file:
+        return [line for line in file.read().splitlines() if line and not line.startswith("#")]
 
-    def __init__(self, title: str) -> None:
-        self.title = title
-        self.functions: list[Function] = []
-        self.words: dict[str, list[str]] = {"=": [], "+": []}
-        self.shared: dict[str, list[str]] = {}
 
-    def add(self, line: str) -> None:
-        if line[:2] in ("= ", "+ "):
-            for word, shared in WORD.findall(line[2:]):
-                self.words[line[0]].append(word)
-                self.shared |= {word: shared.split(",")} if shared else {}
-        else:
-            self.functions.append(Function(line))
+def words(sign: str) -> list[tuple[str, str]]:
+    """The functions behind a sign, each with what it shares."""
+    return [word for line in lines() if line.startswith(f"{sign} ") for word in WORD.findall(line[2:])]
 
 
 def silent() -> set[str]:
     """The functions that touch no memory that the program shares."""
-    with open(TABLE, encoding="utf-8") as file:
-        words = [word for line in file if line.startswith("+ ") for word, _ in WORD.findall(line[2:])]
-    return {name for word in words for name in with_endings(word)}
+    return {name for word, _ in words("+") for name in with_endings(word)}
 
 
-class Table:
-    def __init__(self) -> None:
-        self.sections: list[Section] = []
-        with open(TABLE, encoding="utf-8") as file:
-            for line in file.read().splitlines():
-                if line.startswith("## "):
-                    self.sections.append(Section(line[3:]))
-                elif line and not line.startswith("#"):
-                    self.sections[-1].add(line)
-        # Those that the hooks have by hand.
-        self.by_hand = self.words("=")
+def functions() -> list[Function]:
+    return [Function(line) for line in lines() if line[1] != " "]
 
-    def words(self, sign: str) -> list[str]:
-        return [word for section in self.sections for word in section.words[sign]]
 
-    def shared(self) -> dict[str, list[str]]:
-        """What each function shares by its manual page."""
-        found = {word: shared for section in self.sections for word, shared in section.shared.items()}
-        return found | {
-            name: function.shared for function in self.functions() for name in function.names if function.shared
-        }
+def names() -> list[str]:
+    """Those of the functions that have wrappers, also by hand."""
+    return [name for function in functions() for name in function.names] + [word for word, _ in words("=")]
 
-    def functions(self) -> list[Function]:
-        return [function for section in self.sections for function in section.functions]
 
-    def names(self) -> list[str]:
-        return [name for function in self.functions() for name in function.names] + self.by_hand
+def declarations() -> str:
+    """The real functions, which the hooks' own calls go to as well. A library may lack some."""
+    made = []
+    for name, function in ((name, function) for function in functions() for name in function.names):
+        brackets = "(...)" if name in TAGS else ""
+        made += [
+            "__attribute__((weak)) " + function.declared("__real_" + name) + ";",
+            f"#undef {name}",
+            f"#define {name}{brackets} __real_{name}{brackets.replace('...', '__VA_ARGS__')}",
+        ]
+    return "\n".join(made) + "\n"
 
-    def declarations(self) -> str:
-        """The real functions, which the hooks' own calls go to as well. A library may lack some."""
-        lines = []
-        for function in self.functions():
-            for name in function.names:
-                brackets = "(...)" if name in TAGS else ""
-                lines += [
-                    "__attribute__((weak)) " + function.declared("__real_" + name) + ";",
-                    f"#undef {name}",
-                    f"#define {name}{brackets} __real_{name}{brackets.replace('...', '__VA_ARGS__')}",
-                ]
-        return "\n".join(lines) + "\n"
 
-    def wrappers(self) -> str:
-        return "\n".join(function.wrapper(name) for function in self.functions() for name in function.names)
+def wrappers() -> str:
+    return "\n".join(function.wrapper(name) for function in functions() for name in function.names)

@@ -10,7 +10,7 @@ from compile import shared_libraries
 from compile.options import NAME, TRACE, Words, fail, say, write
 from compile.compiler import COMPILERS, Compiler, named_compiler
 from compile.hooks import OWN, Hooks, detector_library
-from installation import ARCHIVE
+from installation import ARCHIVE, HERE
 from compile.processes import Folder, answer, heard, run
 
 
@@ -61,7 +61,7 @@ class Link:
             return []
         text, made = os.path.join(self.folder, "unknown.s"), os.path.join(self.folder, "unknown.o")
         write(text, link_inputs.stubs(unknown, virtual))
-        run("as", text, "-o", made)
+        run("as", f"-I{HERE}/hooks/library", text, "-o", made)
         return [made, *["-Wl,--wrap=" + function.name for function in unknown]]
 
     def make_program(self) -> None:

@@ -217,45 +217,22 @@ def wrapping(found: Linked, names: list[str], folder: str) -> list[str]:
     own = {name for part in found.traced for name in part.defined}
     called = {name for part in [*found.traced, *found.others] if not part.is_system for name in part.wanted} - own
     text, made = os.path.join(folder, "called.s"), os.path.join(folder, "called.o")
-    write(text, "".join(f"\t.globl __real_{name}\n" for name in names if name in called) + NO_STACK)
+    # By --require-defined ld 2.40 finds no function of two versions, such as lgamma.
+    needed = [f"\t.globl __real_{name}\n" for name in names if name in called]
+    write(text, "".join([*needed, '\t.section .note.GNU-stack,"",@progbits\n']))
     run("as", "-o", made, text)
     return [made, *[f"-Wl,--defsym=__real_{name}={name}" if name in own else f"-Wl,--wrap={name}" for name in names]]
 
 
-NO_STACK = '\t.section .note.GNU-stack,"",@progbits\n'
-STUB = """\
-\t.globl __wrap_{name}
-\t.type __wrap_{name}, @function
-__wrap_{name}:
-\t.cfi_startproc
-\tpushq %rdi
-\t.cfi_adjust_cfa_offset 8
-\tleaq __spbags_unknown+{offset}(%rip), %rdi
-\tcall __spbags_count_call
-\tpopq %rdi
-\t.cfi_adjust_cfa_offset -8
-\tjmp __real_{name}
-\t.cfi_endproc
-"""
-
-
 def stubs(unknown: list[Unknown], virtual: list[str]) -> str:
-    """In the assembler's language: what is called in place of each, which counts the call and goes on to it, so that
-    the function finds its words and returns as without this; and the table of all, which the hooks read. Behind them
-    stand the classes of virtual functions."""
-    size = 40
-    text = [STUB.format(name=function.name, offset=at * size) for at, function in enumerate(unknown)]
-    table = [*unknown, *(Unknown("", name, "", False) for name in virtual)]
-    rows = [f"\t.quad .Lname{at}, .Lshown{at}, .Llibrary{at}, {int(row.always)}, 0\n" for at, row in enumerate(table)]
-    names = [
-        f'.Lname{at}: .string "{row.name}"\n.Lshown{at}: .string "{quoted(row.shown)}"\n'
-        f'.Llibrary{at}: .string "{quoted(row.library)}"\n'
-        for at, row in enumerate(table)
+    """In the assembler's language, by the macros of hooks/library/unknown_calls.s: what is called in place of each, and
+    the table of all. Behind them stand the classes of virtual functions."""
+    functions = [
+        f"function {row.name}, {quoted(row.shown)}, {quoted(row.library)}, {int(row.always)}" for row in unknown
     ]
-    begin = "\t.data\n\t.balign 8\n\t.globl __spbags_unknown, __spbags_unknown_end\n__spbags_unknown:\n"
-    end = "__spbags_unknown_end:\n\t.section .rodata\n"
-    return "".join(["\t.text\n", *text, begin, *rows, end, *names, NO_STACK])
+    classes = [f'row "", {quoted(name)}, "", 0' for name in virtual]
+    return "\n".join(['.include "unknown_calls.s"', *functions, *classes, "__spbags_unknown_end:", ""])
 
 
 def quoted(text: str) -> str:
-    return text.replace("\\", "\\\\").replace('"', '\\"')
+    return '"' + text.replace("\\", "\\\\").replace('"', '\\"') + '"'

@@ -35,7 +35,7 @@ def entered(token: Token) -> str:
     """What begins a scope of the hooks, which ends with the block around this."""
     return (
         "__attribute__((cleanup(__spbags_leave), unused)) const char *__spbags_scope = "
-        f'__spbags_enter({token.file[:-1]}:{token.line}");'
+        f'__spbags_enter("{token.where()}");'
     )
 
 
@@ -309,15 +309,14 @@ class Loop(Construct):
             end = f"while (0); }}; __spbags_iteration(0, __spbags_shown({self.name}, __spbags_number)); {run} }} }}"
         return self.here + end + self.tokens[self.last].marker()
 
-    def edits(self) -> tuple[Edit, Edit]:
-        """What is put in place of tokens, each with the first and the last, and what is put behind one."""
-        return (self.at, self.closing, self.header()), (self.last, self.footer())
+    def edits(self) -> list[Edit]:
+        return [(self.at, self.closing, self.header()), (self.last, self.footer())]
 
 
-def scope_edits(tokens: list[Token], at: int) -> tuple[Edit, Edit]:
+def scope_edits(tokens: list[Token], at: int) -> list[Edit]:
     first, last = at + 1, statement_end(tokens, at + 1)
     if tokens[first].text != "{":
         raise Refused(tokens[at], "expected '{' after 'cilk_scope'")
     check_entries(tokens, first, last, "cilk_scope")
     here = tokens[at].marker(" 3")
-    return (at, at, f"{here}{{ {entered(tokens[at])}{tokens[at].marker()}"), (last, " }")
+    return [(at, at, f"{here}{{ {entered(tokens[at])}{tokens[at].marker()}"), (last, " }")]

@@ -7,9 +7,9 @@ import itertools
 import re
 from collections.abc import Iterator
 
-from compile.line_markers import Files, has_raw_strings
+from line_markers import Files, has_raw_strings
 from installation import SYSTEM
-from tokens import LITERAL, after_bracket, blanked
+from tokens import LITERAL, after_bracket, blanked, replaced
 
 # A clause of a directive: its name, and where its text begins and ends.
 Clause = tuple[str, int, int]
@@ -17,6 +17,8 @@ Clause = tuple[str, int, int]
 PRAGMA = re.compile(r"[ \t]*#[ \t]*pragma[ \t]+omp\b(.*)")
 PRAGMAS = re.compile("^" + PRAGMA.pattern, re.MULTILINE)
 SECTION = re.compile(r"[ \t]*#[ \t]*pragma[ \t]+omp[ \t]+section\b")
+# A brace, and what stands before the first statement behind it.
+BRACE = re.compile(r"\{(?:\s|#(?:line)? *[0-9][^\n]*\n)*")
 ATTRIBUTE = re.compile(r"\[\[\s*(?:using\s+)?omp\b")
 MEANT = re.compile(PRAGMA.pattern.removeprefix(r"[ \t]*") + "|" + ATTRIBUTE.pattern)
 WORD = re.compile(r"[A-Za-z_]\w*")
@@ -125,8 +127,8 @@ class Source:
         self.text, self.files, self.has_raw_strings = text, Files(text), has_raw_strings(text)
         self.file, self.line, self.is_clang = "?", 1, is_clang
         self.faults: list[str] = []
-        # What comes next of clang's sections: the brace around them, or the first of them.
-        self.awaits: str | None = None
+        # Whether clang's sections come next.
+        self.begins_sections = False
 
     @functools.cached_property
     def bare(self) -> str:
@@ -159,7 +161,7 @@ class Source:
             master = with_body(f" {names[0]} {thread}", BODIES[names[0]], self.file, self.line)
             return f'{master}# {self.line} "{self.file}"\n#pragma omp {text[rest:]}\n'
         if self.is_clang and names[-1:] == ["sections"]:
-            self.awaits = "brace"
+            self.begins_sections = True
             if {"nowait", "lastprivate"} <= {name for name, _, _ in clauses}:
                 return body(LAST_BODY, self.file, self.line, self.line) + f"#pragma omp{text}\n"
         if self.is_clang and names == ["section"]:
@@ -193,37 +195,23 @@ class Source:
         around = body(SCOPE_NOWAIT_BODY if nowait else SCOPE_BODY, self.file, self.line, self.line)
         return around + with_body(text.rstrip(" ,") + " nowait", SCOPED_BODY, self.file, self.line)
 
-    def first_section(self, line: str, bare: str) -> tuple[str, str]:
-        """What stands before the rest of a line, with the directive of the first section if that is left out; and the
-        rest."""
-        before = ""
-        if self.awaits == "brace" and "{" in bare and not PRAGMA.match(bare):
-            behind = bare.index("{") + 1
-            before, line, self.awaits = line[:behind], line[behind:], "section"
-        if self.awaits == "section" and line.strip():
-            self.awaits = None
-            if not SECTION.match(line):
-                before += "\n#pragma omp section\n" + body(SECTION_BODY, self.file, self.line, self.line)
-        return before, line
+    def first_section(self, end: int) -> Iterator[tuple[int, int, str]]:
+        """The directive of the first section behind this, if it is left out."""
+        self.begins_sections = False
+        brace = BRACE.search(self.bare, end)
+        if brace and not SECTION.match(self.bare, brace.end()):
+            place = self.files.place(brace.end())
+            yield brace.end(), brace.end(), "\n#pragma omp section\n" + body(SECTION_BODY, *place, place[1])
 
-    def rewritten(self) -> str:
-        made, done, found = [], 0, MEANT.search(self.text)
-        while found:
+    def parts(self) -> Iterator[tuple[int, int, str]]:
+        """The parts of the source that get another text."""
+        end = 0
+        while found := MEANT.search(self.text, end):
             start = self.text.rfind("\n", 0, found.start()) + 1
-            made.append(self.text[done:start])
-            done = self.rewrite_lines(made, start)
-            found = MEANT.search(self.text, done)
-        return "".join(made) + self.text[done:]
-
-    def rewrite_lines(self, made: list[str], start: int) -> int:
-        """The end of this line, or where clang's sections begin here of the one in which the first of them does."""
-        while start < len(self.text):
             end = self.text.find("\n", start) + 1 or len(self.text)
-            made.append(self.rewritten_line(start, end))
-            start = end
-            if not self.awaits:
-                break
-        return start
+            yield start, end, self.rewritten_line(start, end)
+            if self.begins_sections:
+                yield from self.first_section(end)
 
     def rewritten_line(self, start: int, end: int) -> str:
         line = self.text[start:end]
@@ -231,18 +219,17 @@ class Source:
             return line
         self.file, self.line = self.files.place(start)
         pragma = self.matched(PRAGMA, start)
-        before, line = self.first_section(line, self.bare[start:end]) if self.awaits else ("", line)
         if pragma:
-            line = self.directive(pragma[1], end)
-        elif ATTRIBUTE.search(line) and ATTRIBUTE.search(self.bare, start, end):
+            return self.directive(pragma[1], end)
+        if ATTRIBUTE.search(line) and ATTRIBUTE.search(self.bare, start, end):
             self.refuse("attributes of OpenMP can't be traced: write #pragma omp")
-        return before + line
+        return line
 
 
 def rewritten(text: str, is_clang: bool = False) -> tuple[str, list[str]]:
     """The source with its loops rewritten, and a line for each directive that can't be traced."""
     source = Source(text, is_clang)
-    return source.rewritten(), source.faults
+    return replaced(text, source.parts()), source.faults
 
 
 def ignored(text: str) -> Iterator[tuple[str, int]]:

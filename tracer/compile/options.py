@@ -18,9 +18,9 @@ LANGUAGE = "c++" if IS_CPLUSPLUS else "c"
 # Options after which nothing is linked, and the endings of what they make.
 ENDINGS = {"-c": ".o", "-S": ".s", "-fsyntax-only": None}
 
-# Options that aren't the compiler's: to leave the detector out; to link it, which needs no word; not to test at each
-# access, inline, whether it is a repeat; and to compile nothing, but to print the steps that each source takes.
-OWN_OPTIONS = TRACE, INSIDE, NO_INLINE_CHECKS, STEPS = "--trace", "--inside", "--no-inline-checks", "--steps"
+# Options that aren't the compiler's: to leave the detector out; not to test at each access, inline, whether it is a
+# repeat; and to compile nothing, but to print the steps that each source takes.
+OWN_OPTIONS = TRACE, NO_INLINE_CHECKS, STEPS = "--trace", "--no-inline-checks", "--steps"
 # This stands alone.
 COMPILE_HOOKS = "--compile-hooks"
 PLAIN_LANGUAGES = {"c-header", "c++-header", "assembler", "assembler-with-cpp"}
@@ -30,7 +30,7 @@ DROPPED = tuple(
 )
 # In a static program the library's own calls would be taken for the program's.
 DROPPED_WORDS = set(
-    f"{INSIDE} -static -static-pie -lcilkrts -lgomp -lomp -liomp5 -ltbb -pie -no-pie -g0 -fno-lto -gsplit-dwarf "
+    "-static -static-pie -lcilkrts -lgomp -lomp -liomp5 -ltbb -pie -no-pie -g0 -fno-lto -gsplit-dwarf "
     "-momit-leaf-frame-pointer -fverbose-asm -dA -dp -dP".split()
 )
 DROPPED_FILES = re.compile(r"lib(?:gomp|omp|iomp5)\.(?:a|so\b.*)")

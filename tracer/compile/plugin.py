@@ -66,10 +66,11 @@ def build(compiler: list[str], is_clang: bool, folder: str) -> str:
     return made
 
 
-def options(built: str, is_clang: bool, checks: bool) -> list[str]:
-    """The compiler's words for the plugin, and whether tests are to stand inline."""
+def options(built: str, is_clang: bool, checks: bool, lives: bool) -> list[str]:
+    """The compiler's words for the plugin, and whether tests are to stand inline, and where lives end be told."""
     if not is_clang:
         name = os.path.splitext(os.path.basename(built))[0]
-        return ["-fplugin=" + built, *([f"-fplugin-arg-{name}-checks"] if checks else [])]
+        asked_for = [word for word, wanted in (("checks", checks), ("lives", lives)) if wanted]
+        return ["-fplugin=" + built, *(f"-fplugin-arg-{name}-{word}" for word in asked_for)]
     early = ["-Xclang", "-load", "-Xclang", built, "-mllvm", "-spbags-checks"]
     return ["-fpass-plugin=" + built, *(early if checks else [])]

@@ -5,7 +5,7 @@ from __future__ import annotations
 import re
 from collections.abc import Iterator
 
-from tokens import after_bracket, blanked, replaced, tokens_of
+from tokens import after_bracket, blanked, replaced
 
 KEYWORD = re.compile(r"\b_Hyperobject\b(\s*\()?")
 
@@ -20,9 +20,3 @@ def keywords_of(text: str, bare: str) -> Iterator[tuple[int, int, str]]:
         end = found[1] and after_bracket(bare, found.end() - 1) or found.end()
         given = f"(__spbags_functions{text[found.end() - 1:end]})" if found[1] else ""
         yield found.start(), end, f"__attribute__((spbags_reducer{given}))"
-
-
-def refused(text: str) -> list[str]:
-    """A line for each reducer in a source that another compiler gets."""
-    keywords = (token for token in tokens_of(text) if token.text == "_Hyperobject") if KEYWORD.search(text) else ()
-    return [f"{token.place()}: error: reducers can be traced only with gcc" for token in keywords]

@@ -11,7 +11,7 @@ import re
 
 from compile import loops
 from compile import spawns_cplusplus
-from compile.line_markers import Files
+from line_markers import Files
 from tokens import (
     ASSIGNMENTS,
     Construct,
@@ -22,6 +22,7 @@ from tokens import (
     is_in_block,
     is_lvalue,
     own_constants,
+    replaced,
     statement_start,
     tokens_of,
     without,
@@ -133,77 +134,64 @@ class Spawn(Construct):
         return self.here + declared + " ".join(made) + last.marker()
 
 
-def refused(text: str, why: str) -> list[str]:
-    """A line for each keyword of Cilk in a source that can't have any."""
-    tokens = tokens_of(text) if "_Cilk_" in text else []
-    return [f"{token.place()}: error: {why}" for token in tokens if token.text.startswith("_Cilk_")]
+def refused(text: str, words: str, why: str) -> list[str]:
+    """A line for each keyword that begins so in a source that can't have any."""
+    tokens = tokens_of(text) if words in text else []
+    return [f"{token.place()}: error: {why}" for token in tokens if token.text.startswith(words)]
 
 
-def edits_of(
-    text: str, tokens: list[Token], at: int, language: str, waiting: set[int]
-) -> tuple[Edit, list[Edit]] | None:
-    """What has to be rewritten here: the indexes of the first and the last token, and their new text; and later edits,
-    each of this form, or the index of a token and what comes behind it. Or None."""
+def edits_of(text: str, tokens: list[Token], at: int, language: str, waiting: set[int]) -> list[Edit]:
+    """What has to be rewritten here. First comes the part that nothing else rewrites."""
     token = tokens[at]
     if token.text in REFUSED:
         raise Refused(token, REFUSED[token.text])
+    if token.text == "_Cilk_spawn" and language == "c++":
+        return spawns_cplusplus.Spawn(text, tokens, at, waiting).edits()
     if token.text == "_Cilk_spawn":
-        if language == "c++":
-            return spawns_cplusplus.Spawn(text, tokens, at, waiting).edits()
         found = Spawn(text, tokens, at)
-        return (found.first, found.last, found.rewritten()), []
+        return [(found.first, found.last, found.rewritten())]
     if token.text == "_Cilk_for":
-        edit, later = loops.Loop(text, tokens, at, language, waiting).edits()
-        return edit, [later]
+        return loops.Loop(text, tokens, at, language, waiting).edits()
     if token.text == "_Cilk_scope":
-        edit, later = loops.scope_edits(tokens, at)
-        return edit, [later]
+        return loops.scope_edits(tokens, at)
     if token.text == "_Cilk_sync":
-        return (at, at, spawns_cplusplus.sync(tokens, at, waiting) if waiting else "__spbags_sync()"), []
-    if token.text == "try" and language == "c++" and not token.system:
+        return [(at, at, spawns_cplusplus.sync(tokens, at, waiting) if waiting else "__spbags_sync()")]
+    if token.text == "try" and language == "c++" and not token.is_of_system():
         return spawns_cplusplus.try_edits(tokens, at, waiting)
-    if at in waiting:
-        return (at, at, "{" + spawns_cplusplus.keeper(token)), []
-    return None
+    return [(at, at, "{" + spawns_cplusplus.keeper(token))] if at in waiting else []
 
 
 class Rewriting:
-    """A source that is rewritten from its first token to its last."""
+    """A source of which parts get another text, each from a place to an end."""
 
     def __init__(self, text: str, language: str) -> None:
         self.text, self.language = text, language
         self.tokens = tokens_of(text, Files(text).own())
         self.waiting = spawns_cplusplus.waiting_in(text, self.tokens) if language == "c++" else set()
-        self.made: list[str] = []
+        self.parts: list[tuple[int, int, int, str]] = []
         self.done = 0
         self.faults: list[str] = []
-        self.behind: dict[int, list[str]] = {}
-        self.planned: dict[int, tuple[Edit, list[Edit]]] = {}
 
     def rewrite(self, at: int) -> None:
         try:
-            edits = self.planned.pop(at, None) or edits_of(self.text, self.tokens, at, self.language, self.waiting)
+            edits = edits_of(self.text, self.tokens, at, self.language, self.waiting)
         except Refused as refused:
             self.faults.append(f"{refused.token.place()}: error: {refused}")
             return
         if edits:
-            (first, last, instead), later = edits
-            self.made += [self.text[self.done : self.tokens[first].start], instead]
-            self.done = self.tokens[last].end
-            for edit in later:
-                if len(edit) == 3:
-                    self.planned[edit[0]] = edit, []
-                else:
-                    self.behind.setdefault(edit[0], []).insert(0, edit[1])
+            self.done = self.tokens[edits[0][1]].end
+            for edit in edits:
+                end = self.tokens[edit[-2]].end
+                start = self.tokens[edit[0]].start if len(edit) == 3 else end
+                # Of what comes behind one token the innermost construct's is the first.
+                self.parts.append((start, end, -len(self.parts), edit[-1]))
 
     def rewritten(self) -> tuple[str, list[str]]:
         for at, token in enumerate(self.tokens):
-            if (token.text in MEANT or at in self.planned or at in self.waiting) and token.start >= self.done:
+            if (token.text in MEANT or at in self.waiting) and token.start >= self.done:
                 self.rewrite(at)
-            for instead in self.behind.pop(at, ()):
-                self.made += [self.text[self.done : token.end], instead]
-                self.done = max(self.done, token.end)
-        return "".join(self.made) + self.text[self.done :], self.faults
+        parts = ((start, end, instead) for start, end, _, instead in sorted(self.parts))
+        return replaced(self.text, parts), self.faults
 
 
 def rewritten(text: str, language: str) -> tuple[str, list[str]]:

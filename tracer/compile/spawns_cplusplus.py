@@ -16,6 +16,7 @@ from tokens import (
     Refused,
     Token,
     after_angles,
+    after_lambda,
     arguments_of,
     is_in_block,
     outside,
@@ -70,14 +71,6 @@ def after_operator(tokens: list[Token], at: int) -> int | None:
     while tokens[at].text not in ("(", ";"):
         at += 1
     return at if tokens[at].text == "(" else None
-
-
-def after_lambda(tokens: list[Token], at: int) -> int | None:
-    """The token behind a lambda that begins here, or None."""
-    at = tokens[at].partner + 1
-    while tokens[at].text not in ("{", ";", "}", ")"):
-        at = tokens[at].partner + 1 if tokens[at].text in ("(", "[") else at + 1
-    return tokens[at].partner + 1 if tokens[at].text == "{" else None
 
 
 def is_statement(tokens: list[Token], at: int) -> bool:
@@ -332,14 +325,13 @@ class Spawn(Construct):
             f"__spbags_ended_{number}.__end(__builtin_addressof({name}), sizeof {name});"
         )
 
-    def edits(self) -> tuple[Edit, list[Edit]]:
-        """What is put in place of tokens, and later edits: in place of others, or behind one."""
+    def edits(self) -> list[Edit]:
         begins, kind, declared = self.target()
         opens, later = self.called()
         number = f"_{self.spawn}" if declared else ""
         made = self.function(bool(declared))
         made_by = f"{'' if declared else '{ '}auto {made} = {STATEMENT}{kind} {{ {begins}{opens}"
-        place = f'{self.tokens[self.spawn].file[:-1]}:{self.tokens[self.spawn].line}"'
+        place = f'"{self.tokens[self.spawn].where()}"'
         ends = f" }}; __spbags_ending __spbags_ended{number}{{{place}, &{made}, sizeof {made}}}; "
         if declared:
             ends += self.declares(declared)
@@ -353,11 +345,11 @@ class Spawn(Construct):
         if self.is_braced and not kind:
             later.append((self.end, self.end, ""))
         later.append((self.last, self.here + ends + self.tokens[self.last].marker()))
-        return (self.first, self.spawn, self.here + made_by + self.tokens[self.spawn].marker()), later
+        return [(self.first, self.spawn, self.here + made_by + self.tokens[self.spawn].marker()), *later]
 
 
-def try_edits(tokens: list[Token], at: int, waiting: set[int]) -> tuple[Edit, list[Edit]] | None:
-    """A block whose exceptions are handled waits at its end for its own children; None where it spawns none."""
+def try_edits(tokens: list[Token], at: int, waiting: set[int]) -> list[Edit]:
+    """A block whose exceptions are handled waits at its end for its own children, if it spawns some."""
     first = at + 1
     while tokens[first].text not in ("{", ";", "}"):
         first = tokens[first].partner + 1 if tokens[first].text == "(" and tokens[first].partner else first + 1
@@ -366,9 +358,9 @@ def try_edits(tokens: list[Token], at: int, waiting: set[int]) -> tuple[Edit, li
         tokens[inner].text == "_Cilk_spawn" and not is_in_inner(tokens, inner, first, ())
         for inner in range(first, last)
     ):
-        return None
+        return []
     if first != at + 1:
         raise Refused(tokens[at], "a spawn can't be traced in a constructor's function try block")
     here = tokens[first].marker(" 3")
     keeps = keeper(tokens[first]) if first in waiting else ""
-    return (first, first, f"{{{here}{entered(tokens[at])}{tokens[first].marker()}{keeps}"), []
+    return [(first, first, f"{{{here}{entered(tokens[at])}{tokens[first].marker()}{keeps}")]

@@ -8,10 +8,6 @@ import sys
 from collections import namedtuple
 from collections.abc import Iterator
 
-from compile.line_markers import Files
-
-# The library has instances of these classes, whose accesses no hook would see.
-STRINGS = re.compile(r"extern\s+template\s+class\s+(?:basic_string|allocator)\s*<\s*(?:char|wchar_t)\s*>\s*;")
 ASM = re.compile(r"\b(?:asm|__asm__|__asm)\s*(?:\w+\s*)*\(")
 # How far back the end of what stands before is looked for.
 NEAR = 5000
@@ -86,25 +82,16 @@ def with_openmp(text: str, target: Target) -> Made:
     return openmp.rewritten(text, target.is_clang)
 
 
-# ---- C++ ----
-
-
-def without_instances(text: str, _: Target) -> Made:
-    """the library's headers don't say that it has instances of them"""
-    from tokens import replaced
-
-    files, found = Files(text), STRINGS.finditer(text)
-    return replaced(text, ((*one.span(), "") for one in found if files.at(one.start())[1])), []
-
-
 # ---- Cilk ----
 
 
 def with_reducers(text: str, target: Target) -> Made:
     """an attribute, which gcc's plugin reads, stands in place of the keyword"""
-    from compile import reducers
+    from compile import reducers, spawns
 
-    return (text, reducers.refused(text)) if target.is_clang else (reducers.rewritten(text), [])
+    if target.is_clang:
+        return text, spawns.refused(text, "_Hyperobject", "reducers can be traced only with gcc")
+    return reducers.rewritten(text), []
 
 
 def without_const(text: str, _: Target) -> Made:
@@ -119,9 +106,9 @@ def with_spawns(text: str, target: Target) -> Made:
     from compile import spawns
 
     if target.has_openmp:
-        return text, spawns.refused(text, "Cilk can't be traced together with OpenMP")
+        return text, spawns.refused(text, "_Cilk_", "Cilk can't be traced together with OpenMP")
     if target.is_clang and target.is_cplusplus:
-        return text, spawns.refused(text, "Cilk in C++ can be traced only with g++")
+        return text, spawns.refused(text, "_Cilk_", "Cilk in C++ can be traced only with g++")
     language = "c++" if target.is_cplusplus else "clang" if target.is_clang else "gcc"
     made, faults = spawns.rewritten(text, language)
     return made + INSTEAD_OF_TASK * (language == "gcc" and "_Cilk_for" in text), faults
@@ -131,7 +118,6 @@ STEPS = [
     Step("assembly", lambda text, _: may_have_assembly(text), with_assembly),
     Step("ignored OpenMP", lambda text, to: to.warns and not to.has_openmp and OPENMP.search(text), with_warning),
     Step("OpenMP", lambda text, target: target.has_openmp and OPENMP.search(text), with_openmp),
-    Step("strings", lambda text, target: target.is_cplusplus and STRINGS.search(text), without_instances),
     Step("reducers", lambda text, _: "_Hyperobject" in text, with_reducers),
     Step("attributes", lambda text, to: to.is_cplusplus and not to.is_clang and CONST.search(text), without_const),
     Step("Cilk", lambda text, _: CILK.search(text), with_spawns),

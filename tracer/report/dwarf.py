@@ -120,26 +120,22 @@ class Dwarf:
         """The abbreviations that begin here, by their numbers."""
         table: dict[int, Abbreviation] = {}
         at = start
-        while True:
+        while self.abbrev[at] != 0:
             number, at = uleb(self.abbrev, at)
-            if number == 0:
-                return table
             tag, at = uleb(self.abbrev, at)
-            has_children, at = self.abbrev[at] == 1, at + 1
-            attributes, at = self.attributes(at)
-            table[number] = (tag, has_children, attributes)
+            attributes, end = self.attributes(at + 1)
+            table[number] = (tag, self.abbrev[at] == 1, attributes)
+            at = end
+        return table
 
     def attributes(self, at: int) -> tuple[list[tuple[int, int, int | None]], int]:
         found: list[tuple[int, int, int | None]] = []
-        while True:
+        while self.abbrev[at : at + 2] != b"\0\0":
             attribute, at = uleb(self.abbrev, at)
             form, at = uleb(self.abbrev, at)
-            constant = None
-            if form == IMPLICIT:
-                constant, at = sleb(self.abbrev, at)
-            if attribute == form == 0:
-                return found, at
+            constant, at = sleb(self.abbrev, at) if form == IMPLICIT else (None, at)
             found.append((attribute, form, constant))
+        return found, at + 2
 
     def value(self, form: int, at: int) -> tuple[int | bytes, int]:
         """The value of this form, and what follows it; of a text in the entry where it begins."""
@@ -157,11 +153,8 @@ class Dwarf:
         size, start = (int.from_bytes(info[at:start], "little"), start) if start > at else uleb(info, at)
         return info[start : start + size], start + size
 
-    def entry_or_end(self, unit: Unit, at: int) -> Entry | None:
-        """The entry that begins here; None is the end of others' children."""
+    def entry(self, unit: Unit, at: int) -> Entry:
         number, end = uleb(self.info, at)
-        if number == 0:
-            return None
         tag, has_children, attributes = self.table(unit.abbreviations)[number]
         entry = Entry(unit, at, tag, has_children)
         for attribute, form, constant in attributes:
@@ -172,12 +165,6 @@ class Dwarf:
         entry.end = end
         return entry
 
-    def entry(self, unit: Unit, at: int) -> Entry:
-        found = self.entry_or_end(unit, at)
-        if found is None:
-            raise LookupError("no entry")
-        return found
-
     @functools.cache
     def root(self, unit: Unit) -> Entry:
         return self.entry(unit, unit.first)
@@ -187,20 +174,18 @@ class Dwarf:
         return self.read_children(entry)[0] if entry.has_children else []
 
     def read_children(self, entry: Entry) -> tuple[list[int], int]:
-        """Where they begin, and where they end."""
+        """Where they begin, and where they end, which a zero says."""
         starts: list[int] = []
         at = entry.end
-        while at < entry.unit.end:
-            child = self.entry_or_end(entry.unit, at)
-            if child is None:
-                return starts, at + 1
+        while at < entry.unit.end and self.info[at] != 0:
             starts.append(at)
+            child = self.entry(entry.unit, at)
             sibling = child.number(SIBLING)
             if sibling:
                 at = entry.unit.start + sibling
             else:
                 at = self.read_children(child)[1] if child.has_children else child.end
-        return starts, at
+        return starts, at + 1
 
     def each_child(self, entry: Entry) -> Iterator[Entry]:
         return (self.entry(entry.unit, at) for at in self.children(entry))

@@ -146,24 +146,16 @@ class Shapes:
 
     def counted(self, kind: Entry | None, first: int, end: int) -> int:
         if kind and kind.tag in WITH_MEMBERS:
-            return (
-                sum(
-                    self.count(self.type_of(member), max(first - start, 0), min(end - start, size))
-                    for member, start, size in self.touched(kind, first, end)
-                )
-                or 1
-            )
+            members = self.touched(kind, first, end)
+            parts = ((self.type_of(at), max(first - start, 0), min(end - start, size)) for at, start, size in members)
+            return sum(self.count(*part) for part in parts) or 1
         element, size, _ = self.dimensions(kind) if kind and kind.tag == ARRAY else (None, None, None)
         if not size:
             return 1
         number, last = first // size, (end - 1) // size
-        if number == last:
-            return self.count(element, first - number * size, end - number * size)
-        return (
-            self.count(element, first - number * size, size)
-            + self.count(element, 0, end - last * size)
-            + (last - number - 1) * (self.count(element, 0, size) if last - number > 1 else 0)
-        )
+        inner = {at: (max(first - at * size, 0), min(end - at * size, size)) for at in (number, last)}
+        ends = sum(self.count(element, *part) for part in inner.values())
+        return ends + max(last - number - 1, 0) * self.count(element, 0, size)
 
     def gathered(self, kind: Entry | None, runs: Iterable[Run], most: int) -> tuple[list[str], int]:
         """Of these runs of bytes so many paths to their parts, and the number of parts."""

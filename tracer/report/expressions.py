@@ -5,16 +5,14 @@ import re
 from typing import NamedTuple
 
 from report.source_lines import without_comments
-from tokens import ASSIGNMENTS, tokens_of
+from tokens import ASSIGNMENTS, after_postfixes, tokens_of
 
 
 class Use(NamedTuple):
-    """What a line names: its text; the name that it begins with, and what follows, each `*`, `[]`, `.NAME`, `->NAME` or
-    `()`; whether an operator reads and writes it there; whether it may be both, since its address is taken or it is
-    handed to a function; whether it is declared there; and whether a statement begins with it, so that nobody uses the
-    value."""
+    """What a line names: the name that it begins with, and what follows, each `*`, `[]`, `.NAME`, `->NAME` or `()`;
+    whether an operator reads and writes it there; whether it may be both, since its address is taken or it is handed to
+    a function; whether it is declared there; and whether a statement begins with it, so that nobody uses the value."""
 
-    text: str
     base: str
     steps: tuple[str, ...]
     reads: bool
@@ -62,18 +60,12 @@ class Line:
 
     def postfixes(self, at: int) -> tuple[list[str], int]:
         """The steps from here on, and what follows them."""
-        steps = []
-        while self.text_at(at) in ("[", "(", ".", "->"):
-            token = self.tokens[at]
-            if token.text in (".", "->"):
-                steps.append(token.text + (self.text_at(at + 1) or ""))
-                at += 2
-            elif token.partner is None:
-                break
-            else:
-                steps.append(token.text + self.tokens[token.partner].text)
-                at = token.partner + 1
-        return steps, at
+        end, operators = after_postfixes(self.tokens, at)
+        return [self.step(operator) for operator in operators], end
+
+    def step(self, at: int) -> str:
+        partner: int | None = self.tokens[at].partner
+        return self.tokens[at].text + (self.text_at(at + 1 if partner is None else partner) or "")
 
     def use(self, first: int, base: str) -> Use:
         start = first
@@ -91,9 +83,8 @@ class Line:
             start -= 1
             behind = self.text_at(end + 1) if behind in ("++", "--") else behind
             prefix = self.prefix(start)
-        text = " ".join([base, *steps])
         is_first = self.text_at(start - 1 - (prefix is not None)) in BEFORE_STATEMENT
-        return Use(text, base, tuple(steps), *self.usage(start, prefix, behind), self.is_declared(first), is_first)
+        return Use(base, tuple(steps), *self.usage(start, prefix, behind), self.is_declared(first), is_first)
 
     def prefix(self, start: int) -> str | None:
         found = self.text_at(start - 1)
@@ -129,8 +120,8 @@ def updates(text: str, before: str = "", after: str = "") -> bool:
     written = written_in(text)
     if not written and is_question(text):
         before, written = "", written_in(after)
-    read = {use.text for use in (*uses_of(text), *(uses_of(before) if is_question(before) else ())) if use.reads}
-    return bool(written) and all(use.is_first and use.text in read for use in written)
+    read = {use[:2] for use in (*uses_of(text), *(uses_of(before) if is_question(before) else ())) if use.reads}
+    return bool(written) and all(use.is_first and use[:2] in read for use in written)
 
 
 def written_in(text: str) -> list[Use]:

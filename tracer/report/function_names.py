@@ -56,21 +56,15 @@ def line_of_lambda(position: Position) -> int | None:
 @functools.lru_cache
 def lambdas_of(file: str) -> list[tuple[int, int]]:
     """The first and the last line of each lambda of a source."""
-    from tokens import tokens_of
+    from tokens import after_lambda, tokens_of
 
     tokens = tokens_of(source_lines.without_comments("\n".join(source_lines.lines_of(file))))
-    ends = ((token, end_of_lambda(tokens, at)) for at, token in enumerate(tokens) if token.text == "[")
-    return [(token.line, tokens[end].line) for token, end in ends if end is not None]
+    ends = ((token, after_lambda(tokens, at)) for at, token in enumerate(tokens) if may_begin_lambda(tokens, at))
+    return [(token.line, tokens[end - 1].line) for token, end in ends if end is not None]
 
 
-def end_of_lambda(tokens: list[Token], opening: int) -> int | None:
-    """The brace that closes the body of the lambda that begins here, or None where none does."""
-    before, at = tokens[opening - 1] if opening > 0 else None, tokens[opening].partner
-    if before and (before.text in (")", "]", "[") or (before.kind == "word" and before.text not in BEFORE_LAMBDA)):
-        return None
-    while at is not None and at + 1 < len(tokens):
-        at += 1
-        if tokens[at].text in ("{", "}", ";", ",", ")", "]", "="):
-            return tokens[at].partner if tokens[at].text == "{" else None
-        at = tokens[at].partner if tokens[at].text in ("(", "[") else at
-    return None
+def may_begin_lambda(tokens: list[Token], at: int) -> bool:
+    """Whether this is a square bracket behind no operand."""
+    before = tokens[at - 1] if at > 0 else None
+    is_behind_word = before and before.kind == "word" and before.text not in BEFORE_LAMBDA
+    return tokens[at].text == "[" and not is_behind_word and not (before and before.text in (")", "]", "["))

@@ -1,16 +1,17 @@
 """The report of `spbags-run` as one page of HTML that needs no other file and no script. jinja2 lays it out by
 report.html.j2 and escapes all text of the program; pygments tells comments, strings and keywords of sources apart."""
 import functools
+import io
 import os
 import shlex
-from collections.abc import Iterator
-from itertools import chain, groupby
+from itertools import groupby
 from typing import NamedTuple
 
 # mypy: no-warn-unused-ignores
 import jinja2  # type: ignore[import]
-from markupsafe import Markup, escape  # type: ignore[import]
+from markupsafe import Markup  # type: ignore[import]
 from pygments import token  # type: ignore[import]
+from pygments.formatters.html import HtmlFormatter  # type: ignore[import]
 from pygments.lexers.c_cpp import CLexer, CppLexer  # type: ignore[import]
 
 from report import source_lines, stack_rows, text
@@ -27,16 +28,9 @@ AROUND = 10
 # So many pairs are shown whole, and sources up to so many bytes have colours: a browser opens thousands of pairs at
 # once.
 WHOLE, MOST = 200, 1 << 19
-STYLES = (
-    (token.Comment.Preproc, "p"),
-    (token.Comment, "c"),
-    (token.String, "s"),
-    (token.Keyword, "k"),
-    (token.Number, "n"),
-)
-# The drawing, in units of a viewBox: what a column and a box take, and how many boxes a column has at most, at its
-# beginning and at its end.
-COLUMN, BOX, STEP, BOXES, LETTERS = 330, 310, 56, 3, 40
+COLOURED = (token.Comment.Preproc, token.Comment, token.String, token.Keyword, token.Number)
+# How many boxes of the way a column has at most at its beginning and at its end, and the letters of a row in one.
+BOXES, LETTERS = 3, 40
 # The kind of a box by the label of a row, and what its code does; an access does what its label says.
 DOES = {
     stack_rows.LABELS["spawn"]: ("spawn", "spawns"),
@@ -46,37 +40,24 @@ DOES = {
 
 
 Excerpt = NamedTuple("Excerpt", [("name", str), ("place", str), ("function", str), ("lines", str)])
-Box = NamedTuple("Box", [("x", int), ("y", int), ("kind", str), ("function", str), ("place", str)])
-# The line between two boxes: where it begins and ends, and whether there is a spawn between them.
-Edge = NamedTuple("Edge", [("x", int), ("y", int), ("to_x", int), ("to_y", int), ("spawns", bool)])
-Drawing = NamedTuple("Drawing", [("width", int), ("height", int), ("boxes", list[Box]), ("edges", list[Edge])])
+Box = NamedTuple("Box", [("kind", str), ("function", str), ("place", str)])
+# Where both accesses meet, and the way from there to each.
+Way = NamedTuple("Way", [("top", Box), ("columns", list[list[Box]])])
 
 
 # ---- Sources ----
 
 
-def pieces_of(file: str) -> Iterator[str | None]:
-    """The tokens of a source, each as HTML, and between lines None."""
+@functools.cache
+def coloured(file: str) -> list[str]:
+    """The lines of a source as HTML, in which only what has a colour is an element."""
     whole = "\n".join(source_lines.lines_of(file))
     lexer = CLexer() if file.endswith(".c") else CppLexer()
     tokens = [(0, token.Text, whole)] if len(whole) > MOST else lexer.get_tokens_unprocessed(whole)
-    for _, kind, piece in tokens:
-        style = next((name for one, name in STYLES if kind in one), None)
-        for number, part in enumerate(piece.split("\n")):
-            if number > 0:
-                yield None
-            yield Markup('<i class="{}">{}</i>').format(style, part) if style and part.strip() else escape(part)
-
-
-@functools.cache
-def coloured(file: str) -> list[str]:
-    lines: list[list[str]] = [[]]
-    for piece in pieces_of(file):
-        if piece is None:
-            lines.append([])
-        else:
-            lines[-1].append(piece)
-    return [Markup("").join(pieces) for pieces in lines]
+    kinds = ((next((one for one in COLOURED if kind in one), token.Text), piece) for _, kind, piece in tokens)
+    made = io.StringIO()
+    HtmlFormatter(nowrap=True).format(kinds, made)
+    return list(map(Markup, made.getvalue().split("\n")))
 
 
 @functools.cache
@@ -113,41 +94,33 @@ def column_of(stack: list[Frame]) -> list[stack_rows.Row]:
     return stack_rows.without_middle(found, BOXES)
 
 
-def boxes_of(column: list[stack_rows.Row], x: int) -> Iterator[Box]:
-    for number, row in enumerate(column, 1):
-        kind, does = DOES.get(row.label, ("access", row.label))
-        said = f"{row.place} {does}{f', {row.behind}' if row.behind else ''}".strip()
-        yield Box(x, number * STEP, kind, text.in_middle(row.function, LETTERS), text.at_start(said, LETTERS))
+def box_of(kind: str, function: str, said: str) -> Box:
+    return Box(kind, text.in_middle(function, LETTERS), text.at_start(said, LETTERS))
 
 
-def edges_of(top: Box, column: list[Box]) -> Iterator[Edge]:
-    for upper, lower in zip([top, *column], column):
-        yield Edge(upper.x + BOX // 2, upper.y + STEP - 16, lower.x + BOX // 2, lower.y, upper.kind == "spawn")
+def box_of_row(row: stack_rows.Row) -> Box:
+    kind, does = DOES.get(row.label, ("access", row.label))
+    said = f"{row.place} {does}{f', {row.behind}' if row.behind else ''}".strip()
+    return box_of(kind, row.function, said)
 
 
 def top_of(pair: Pair, outermost: list[Position]) -> Box | None:
     """The construct whose children race, or the function where both meet; None where that isn't known."""
     if pair.siblings:
-        position, kind = pair.siblings.position, "spawn"
-        said = f"{stack_rows.place(position)} spawns both"
-    elif outermost[0].function == outermost[1].function and outermost[0].line > 0:
-        position, kind, said = outermost[0], "call", "both meet here"
-    else:
-        return None
-    return Box(COLUMN // 2, 0, kind, text.in_middle(function_of(position), LETTERS), text.at_start(said, LETTERS))
+        position = pair.siblings.position
+        return box_of("spawn", function_of(position), f"{stack_rows.place(position)} spawns both")
+    if outermost[0].function == outermost[1].function and outermost[0].line > 0:
+        return box_of("call", function_of(outermost[0]), "both meet here")
+    return None
 
 
-def drawing_of(pair: Pair) -> Drawing | None:
+def way_of(pair: Pair) -> Way | None:
     """Two columns of boxes below one, as far as both stacks aren't alike."""
     stacks = text.stacks_of(pair)
     tail = stack_rows.common_tail(*stacks)
     own = [stack[: len(stack) - tail] for stack in stacks]
     top = top_of(pair, [stack[-1].position for stack in own])
-    if not top:
-        return None
-    columns = [list(boxes_of(column_of(stack), x)) for stack, x in zip(own, (0, COLUMN))]
-    height = (max(map(len, columns)) + 1) * STEP - 14
-    return Drawing(COLUMN + BOX, height, [top, *chain(*columns)], list(chain(*(edges_of(top, one) for one in columns))))
+    return Way(top, [list(map(box_of_row, column_of(stack))) for stack in own]) if top else None
 
 
 # ---- The page ----
@@ -189,7 +162,7 @@ def page_of(report: Report, status: int) -> str:
             place_of=stack_rows.place,
             allocation_rows=stack_rows.allocation_rows,
             excerpts_of=excerpts_of,
-            drawing_of=drawing_of,
+            way_of=way_of,
             stacks_of=stacks_of,
             program=os.path.basename(report.command[0]),
             command=shlex.join(report.command),

@@ -6,11 +6,12 @@ from typing import BinaryIO
 from report import result, source_lines, text
 from report.checker_answers import FIRST_FRESH, Places, Race, address_of, races_of, unit_of, units_of
 from report.failure import Failure, reason_of
+from report.outcome import Run
 from report.pairs import Pair, in_order, merged
 from report.program import Program
 from report.program_input import disk_file
 from report.run_notes import Notes, is_stream
-from report.runs import Run, Runner, file_of
+from report.runs import Runner, file_of
 from report.sites import by_sites, common_guard
 from report.stack_rows import place
 
@@ -125,10 +126,15 @@ class LaterRuns:
     def find_by_others(self, run: Run) -> bool:
         """What threads have of their own, by a run in which another thread does what any may do. Whether that leaves
         nothing of the kind."""
-        [self.runner.settings["SPBAGS_OTHERS"]] = run.words("others")
+        self.runner.settings["SPBAGS_OTHERS"] = ",".join(run.constructs)
         found = self.find_more(run, "another thread does what any may do")
         del self.runner.settings["SPBAGS_OTHERS"]
-        return found is not None and not found.others
+        return found is not None and all(map(self.is_of_race, found.others))
+
+    def is_of_race(self, line: str) -> bool:
+        """Whether a line begins with the place of an access that is known to race."""
+        stacks = (side.stack for pair in self.pairs for side in pair.sides)
+        return any(line.startswith(f"{at.position.file}:{at.position.line}: ") for stack in stacks for at in stack)
 
     def find_pairs(self, found: Found) -> None:
         """The pairs of these races: with stacks where another run had the same accesses, and else as they are known."""

@@ -17,15 +17,12 @@ of the source that has this code.
     unseen CALLS LIBRARY  a function of which nothing is known, whose name is the text
     incomplete            something wasn't seen or modelled
     waits                 the same, but another run may model it, by the file that SPBAGS_WAITED names
-    others PHASE          the same, by SPBAGS_OTHERS=PHASE
+    others CONSTRUCT      the same, by SPBAGS_OTHERS, which has these with commas between
     seeming               some of the races may be none
     note                  what the report doesn't say
 """
-import contextlib
-import os
 import re
-import threading
-from collections.abc import Callable, Iterable
+from collections.abc import Iterable
 from typing import NamedTuple
 
 from report import source_lines
@@ -64,34 +61,3 @@ def with_lines(program: str, texts: list[str]) -> list[str]:
         return f"{position.file}:{position.line}" if position.line > 0 else f"address {match[1]}"
 
     return list(dict.fromkeys(CODE.sub(line_of, text) for text in texts))
-
-
-class Said(threading.Thread):
-    """The records, which are read as they come. Those that can't wait for the report go to a function at once."""
-
-    END = "\nend\n"
-
-    def __init__(self, tell: Callable[[str, list[int]], None]) -> None:
-        super().__init__(daemon=True)
-        self.tell = tell
-        self.records: list[Record] = []
-        self.out, self.into = os.pipe()
-
-    def run(self) -> None:
-        with open(self.out, encoding="utf-8", errors="replace") as file:
-            for line in map(str.rstrip, file):
-                if line == self.END.strip():
-                    break
-                record = record_of(line)
-                if record.name == "stuck":
-                    with contextlib.suppress(Exception):
-                        self.tell(record.text, [int(code, 16) for code in record.words])
-                else:
-                    self.records.append(record)
-
-    def end(self) -> list[Record]:
-        """All records of the program, which has ended. A process that it made may still have the pipe."""
-        os.write(self.into, self.END.encode())
-        self.join()
-        os.close(self.into)
-        return self.records

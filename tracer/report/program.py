@@ -1,5 +1,6 @@
 """The pairs of source positions of a program's races: their stacks, their variables, and what orders them."""
 from collections.abc import Iterable, Iterator, Sequence
+from itertools import takewhile
 
 from installation import is_own
 from report import advice, checker_answers, source_lines
@@ -227,29 +228,17 @@ class Program:
         fits = width and width == other and block.size % width == offset % width == 0
         stack = self.stack("allocation", block.stack)
         variable = Variable("heap", offset=offset, size=block.size, element=width if fits else None, stack=stack)
-        allocations = [Line(code - 1, source_lines.text_of(position)) for code, position in self.lines_of(block.stack)]
-        found = self.heap_types.named(offset, block.size, allocations, lines)
+        codes = [int(word, 16) for word in block.stack if word != "spawn"]
+        there = [(code, position) for code in codes for position in self.positions[code]]
+        inside = list(takewhile(source_lines.is_system, (position for _, position in there)))
+        own = [Line(code - 1, source_lines.text_of(at)) for code, at in there if not source_lines.is_system(at)]
+        found = self.heap_types.named(offset, block.size, own, lines)
         if found:
             variable.whole, variable.expression = found
-        else:
-            variable.owner = self.owner(block.stack)
+        elif inside and own:
+            # The library allocates it for what stands on the line that calls it.
+            variable.owner = self.heap_types.owner(inside[-1].function, own[0])
         return variable
-
-    def owner(self, words: Sequence[str]) -> str | None:
-        """What has a block that the library allocates for it."""
-        inside: Position | None = None
-        for code in (int(word, 16) for word in words if word != "spawn"):
-            for position in self.positions[code]:
-                if not source_lines.is_system(position):
-                    line = Line(code - 1, source_lines.text_of(position))
-                    return self.heap_types.owner(inside.function, line) if inside else None
-                inside = position
-        return None
-
-    def lines_of(self, words: Sequence[str]) -> Iterator[tuple[int, Position]]:
-        """The code and the position of each function on a stack that isn't of the system."""
-        for code in (int(word, 16) for word in words if word != "spawn"):
-            yield from ((code, position) for position in self.positions[code] if not source_lines.is_system(position))
 
     def line_of(self, kind: str, words: Sequence[str]) -> Line:
         """The line that accesses a block; what the library does there has no text."""

@@ -1,9 +1,14 @@
 """The standard input, which each run of a program gets from where it stands when the first one begins."""
+from __future__ import annotations
+
 import os
 import select
 import stat
 import threading
-from typing import BinaryIO
+
+TYPE_CHECKING = False
+if TYPE_CHECKING:
+    from typing import BinaryIO
 
 
 def disk_file() -> BinaryIO:

@@ -1,10 +1,14 @@
 """What a terminal shows of a long run: a line on standard error, below what the program prints, which goes again."""
-import contextlib
-import mmap
+from __future__ import annotations
+
 import os
 import struct
 import threading
 import time
+
+TYPE_CHECKING = False
+if TYPE_CHECKING:
+    import mmap
 
 # The page that the hooks write: how many spawns and accesses the detector inside has taken, and how many locations
 # have raced.
@@ -38,6 +42,8 @@ class Progress:
         self.file: int | None = None
         self.page: mmap.mmap | None = None
         if is_wanted():
+            import mmap
+
             self.file = os.memfd_create("spbags")
             os.truncate(self.file, mmap.PAGESIZE)
             self.page = mmap.mmap(self.file, mmap.PAGESIZE)
@@ -80,8 +86,10 @@ class Progress:
 
     def write(self, line: str) -> None:
         """This line in place of the one that is shown, or none."""
-        with contextlib.suppress(OSError):
+        try:
             shown = f"{DOWN}{line[:(os.get_terminal_size(2).columns or 80) - 1]}{BACK}" if line else ""
             if shown or self.is_shown:
                 os.write(2, f"{ERASE}{shown}".encode())
+        except OSError:
+            pass
         self.is_shown = bool(line)

@@ -1,6 +1,4 @@
 """The report of `spbags-run`, and its JSON."""
-from __future__ import annotations
-
 from typing import TYPE_CHECKING, Any, NamedTuple
 
 from report import source_lines
@@ -8,8 +6,8 @@ from report.source_lines import Position
 from report.stack_rows import Frame
 
 if TYPE_CHECKING:
+    from report.outcome import Unseen
     from report.pairs import Pair, Side, Variable
-    from report.runs import Unseen
     from report.suppressions import Used
 
 VERSION = 3
@@ -37,28 +35,36 @@ class Ended(NamedTuple):
     complete: bool
 
 
-class Report(NamedTuple):
+class Report:
     """What a run of a program came to: the pairs that are shown, and how many more there are, each with its races. How
     many spawns and accesses there were isn't known of a run without the detector inside."""
 
-    command: list[str]
-    unit: int
-    ended: Ended
-    spawns: int | None
-    accesses: int | None
-    races: int
-    pairs: list[Pair]
-    not_shown: Count
-    suppressed: Count
-    guarded: Count
-    without_stacks: int
-    notes: list[str]
-    incomplete: list[str]
-    unseen: list[Unseen]
-    suppressions: list[Used]
+    def __init__(
+        self,
+        command: list[str],
+        unit: int,
+        ended: Ended,
+        spawns: int | None,
+        accesses: int | None,
+        races: int,
+        pairs: "list[Pair]",
+        not_shown: Count,
+        suppressed: Count,
+        guarded: Count,
+        without_stacks: int,
+        notes: list[str],
+        incomplete: list[str],
+        unseen: "list[Unseen]",
+        suppressions: "list[Used]",
+    ) -> None:
+        self.command, self.unit, self.ended = command, unit, ended
+        self.spawns, self.accesses, self.races = spawns, accesses, races
+        self.pairs, self.not_shown, self.suppressed, self.guarded = pairs, not_shown, suppressed, guarded
+        self.without_stacks, self.notes, self.incomplete = without_stacks, notes, incomplete
+        self.unseen, self.suppressions = unseen, suppressions
 
 
-def count(pairs: list[Pair]) -> Count:
+def count(pairs: "list[Pair]") -> Count:
     return Count(len(pairs), sum(pair.races for pair in pairs))
 
 
@@ -87,19 +93,19 @@ def object_of(value: Any) -> Any:
     return {name: object_of(one) for name, one in value._asdict().items()} if hasattr(value, "_asdict") else value
 
 
-def variable_object(variable: Variable) -> dict[str, Any]:
+def variable_object(variable: "Variable") -> dict[str, Any]:
     known = (name for name in KNOWN if getattr(variable, name))
     named = NAMED_LOCAL if variable.kind == "local" and variable.name else ()
     names = ("kind", *FIELDS.get(variable.kind, ()), *named, *known)
     return {name: object_of(getattr(variable, name)) for name in names}
 
 
-def side_object(side: Side) -> dict[str, Any]:
+def side_object(side: "Side") -> dict[str, Any]:
     lead, stack = object_of(side.lead()), object_of(side.stack)
     return {"kind": side.kind, "atomic": side.atomic, "user_frame": lead, "stack": stack}
 
 
-def pair_object(pair: Pair) -> dict[str, Any]:
+def pair_object(pair: "Pair") -> dict[str, Any]:
     first, second = map(side_object, pair.sides)
     own = {name: object_of(getattr(pair, name)) for name in OF_PAIR}
     more = {"suggested": pair.suggested, "suppression": pair.suppression()}
@@ -107,6 +113,6 @@ def pair_object(pair: Pair) -> dict[str, Any]:
 
 
 def as_object(report: Report) -> dict[str, Any]:
-    own = {name: object_of(value) for name, value in report._asdict().items() if name != "pairs"}
+    own = {name: object_of(value) for name, value in vars(report).items() if name != "pairs"}
     stacks, pairs = report.races > report.without_stacks, list(map(pair_object, report.pairs))
     return {"version": VERSION, **own, "stacks": stacks, "pairs": pairs}

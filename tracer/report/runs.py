@@ -2,25 +2,30 @@
 from __future__ import annotations
 
 import ctypes
+import importlib
 import os
 import signal
 import struct
-import subprocess
 import threading
 import time
 from collections.abc import Callable, Iterable
-from typing import IO, TYPE_CHECKING, BinaryIO, NamedTuple
 
 import installation
-from report import source_lines
 from report.failure import Failure
-from report.messages import Record, Said, texts_of, with_lines
+from report.process import Process
 from report.program_input import Input
 from report.progress import Progress
+from report.record_pipe import RecordPipe
 
+TYPE_CHECKING = False
 if TYPE_CHECKING:
-    from report.checker_answers import Race
+    from typing import BinaryIO
 
+    from report.checker_answers import Race
+    from report.outcome import Run
+
+# What each report needs is imported while the program runs, so that nobody waits for it.
+MEANWHILE = ("report.outcome", "report.text")
 # What the hooks of a program have in them that says such records, and those with the detector inside.
 MARK, INSIDE = b"SPBAGS_RECORDS", b"SPBAGS_INSIDE"
 PERSONALITY, ADDR_NO_RANDOMIZE = ctypes.CDLL(None).personality, 0x0040000
@@ -65,7 +70,6 @@ def length_of(environment: Iterable[tuple[str, str]]) -> int:
 
 # What may come while a process runs. It is pending until it is asked for. A terminal's signals are the program's too.
 AWAITED = {signal.SIGCHLD, signal.SIGINT, signal.SIGTERM}
-Process = subprocess.Popen[bytes]
 
 
 def wait_for(
@@ -86,66 +90,10 @@ def wait_for(
     return None
 
 
-def prepare_program(mask: Iterable[int]) -> None:
-    """In the program's process: signals end it, and addresses are alike in all runs, as far as the system lets us."""
-    signal.signal(signal.SIGINT, signal.SIG_DFL)
-    signal.pthread_sigmask(signal.SIG_SETMASK, mask)
+def fix_addresses() -> None:
+    """The programs that are started from now on have their memory at the same addresses, as far as the system lets
+    us."""
     PERSONALITY(ctypes.c_ulong(PERSONALITY(ctypes.c_ulong(0xFFFFFFFF)) | ADDR_NO_RANDOMIZE))
-
-
-class Unseen(NamedTuple):
-    """A function that nothing is known of, the library or the file that has it, and how often it was called."""
-
-    function: str
-    library: str
-    calls: int
-
-
-def unseen_of(records: list[Record]) -> list[Unseen]:
-    named = [record for record in records if record.name == "unseen"]
-    shown = source_lines.demangled(record.text for record in named)
-    return [Unseen(shown[record.text], " ".join(record.words[1:]), int(record.words[0])) for record in named]
-
-
-class Run:
-    """What came of a run: the program's status, its records, and the file with the answer."""
-
-    def __init__(self, status: int, cut: str | None, records: list[Record], answer: BinaryIO, program: str) -> None:
-        # Why spbags-run ended it, where it did.
-        self.status, self.cut, self.answer = status, cut, answer
-        self.named = {record.name: record for record in reversed(records)}
-        # Why there is no answer; and the same where nobody read the trace any more.
-        self.closed = [record.text for record in records if record.name == "fault" and record.words == ["closed"]]
-        self.faults = with_lines(program, texts_of(records, "fault"))
-        # What wasn't seen or modelled, in sentences and functions; and of which races some may be none.
-        self.incomplete, self.waits, self.others, self.seeming = (
-            with_lines(program, texts_of(records, name)) for name in ("incomplete", "waits", "others", "seeming")
-        )
-        self.unseen = unseen_of(records)
-
-    def has_races(self) -> bool:
-        self.answer.seek(0)
-        return self.answer.readline() != b"races 0\n"
-
-    def lines(self, keepends: bool = False) -> list[str]:
-        """Those of the answer."""
-        self.answer.seek(0)
-        return self.answer.read().decode(errors="replace").splitlines(keepends)
-
-    def words(self, name: str) -> list[str]:
-        """Those of the record with this name, if it is there."""
-        return self.named[name].words if name in self.named else []
-
-    def is_whole(self) -> bool:
-        return self.status >= 0 and "end" not in self.named and not self.cut
-
-    def ending(self) -> str:
-        """Why a run isn't whole."""
-        if self.cut:
-            return self.cut
-        if self.status < 0:
-            return f"the program ended by signal {-self.status} ({signal.strsignal(-self.status)})"
-        return self.named["end"].text
 
 
 def memory_file() -> BinaryIO:
@@ -186,17 +134,19 @@ class Runner:
         words: list[str],
         checking: list[str],
         settings: dict[str, str],
-        output: IO[str] | None,
+        output: dict[int, int],
         seconds: float | None,
-        tell: Callable[[str, list[int]], None],
+        tell: Callable[[str], None],
         progress: Progress,
     ) -> None:
-        """The program may run for so many seconds, or for ever; its lines that can't wait go to the function `tell`."""
+        """The program may run for so many seconds, or for ever; its lines that can't wait go to the function `tell`. By
+        their numbers, its output goes to other descriptors."""
         program, self.is_inside = traceable(words[0])
         self.words, self.settings, self.output = [program, *words[1:]], settings, output
         self.checking, self.tell, self.progress = checking, tell, progress
         self.limit = seconds
         self.mask = signal.pthread_sigmask(signal.SIG_BLOCK, AWAITED)
+        fix_addresses()
         self.input = Input()
         self.has_run, self.number = False, 0
         # What each run gets beside its own files.
@@ -204,7 +154,7 @@ class Runner:
 
     def execute(
         self,
-        said: Said,
+        pipe: RecordPipe,
         files: dict[str, int],
         silent: bool,
         settings: dict[str, str],
@@ -217,25 +167,22 @@ class Runner:
         self.progress.begin(f"run {self.number}", f" of at least {self.number + 1}" if again else "", races)
         shown = {} if self.progress.file is None else {"SPBAGS_PROGRESS": self.progress.file}
         files = {**self.files, **files, **shown}
-        given = self.input.begin()
+        given, nowhere = self.input.begin(), os.open(os.devnull, os.O_WRONLY)
+        own = {0: given, **({1: nowhere, 2: nowhere} if silent else self.output)}
+        passed = {file: file for file in (pipe.into, *files.values())}
         try:
-            program = subprocess.Popen(
-                self.words,
-                stdin=given,
-                stdout=subprocess.DEVNULL if silent else self.output,
-                stderr=subprocess.DEVNULL if silent else None,
-                pass_fds=(said.into, *files.values()),
-                env=self.environment(said, files, settings),
-                preexec_fn=lambda: prepare_program(self.mask),
-            )
+            program = Process(self.words, self.environment(pipe, files, settings), {**own, **passed}, self.mask)
         except OSError as error:
             raise Failure(f"{self.words[0]}: {error.strerror}") from error
         finally:
             os.close(given)
-        said.start()
+            os.close(nowhere)
+        pipe.start()
+        for module in MEANWHILE:
+            importlib.import_module(module)
         return program
 
-    def environment(self, said: Said, files: dict[str, int], settings: dict[str, str]) -> dict[str, str]:
+    def environment(self, pipe: RecordPipe, files: dict[str, int], settings: dict[str, str]) -> dict[str, str]:
         """All runs have as long an environment, of as many variables: the program's words lie before it, and setenv
         makes a copy. The program's own come first, so that they lie at the same addresses."""
         ours = {
@@ -243,14 +190,16 @@ class Runner:
             **dict.fromkeys(OURS, ""),
             **self.settings,
             **settings,
-            "SPBAGS_SAYS": f"fd:{said.into}",
+            "SPBAGS_SAYS": f"fd:{pipe.into}",
             **{variable: f"fd:{file}" for variable, file in files.items()},
         }
         wanted = {**{name: value for name, value in os.environ.items() if name not in ours}, **ours}
         return {**wanted, "SPBAGS_ROOM": "." * (self.ROOM + length_of(os.environ.items()) - length_of(wanted.items()))}
 
-    def wait(self, program: Process, said: Said, answer: BinaryIO) -> Run:
+    def wait(self, program: Process, pipe: RecordPipe, answer: BinaryIO) -> Run:
         """The run, when the program has ended; but the answer may not be there yet."""
+        from report.outcome import Run
+
         began = time.monotonic()
         number = wait_for(program, self.limit)
         cut = self.cut(number)
@@ -263,7 +212,7 @@ class Runner:
                 program.send_signal(end)
                 wait_for(program, patience, lambda came: False)
         self.input.end()
-        return Run(program.returncode, cut, said.end(), answer, self.words[0])
+        return Run(program.wait(), cut, pipe.end(), answer, self.words[0])
 
     def cut(self, number: int | None) -> str | None:
         """Why the program is ended, by what `wait_for` gives."""
@@ -287,9 +236,9 @@ class Runner:
 
     def reported(self, silent: bool, files: dict[str, int], settings: dict[str, str], again: bool) -> Run:
         """A run whose detector is inside, and its report."""
-        said, answer = Said(self.tell), memory_file()
+        pipe, answer = RecordPipe(self.tell), memory_file()
         files = {"SPBAGS_REPORT": answer.fileno(), **files}
-        run = self.wait(self.execute(said, files, silent, settings, again=again), said, answer)
+        run = self.wait(self.execute(pipe, files, silent, settings, again=again), pipe, answer)
         refuse_broken(run)
         if os.fstat(answer.fileno()).st_size == 0:
             how = run.ending() if run.status < 0 else f"the program ended with status {run.status}"
@@ -299,35 +248,36 @@ class Runner:
     def check(self, trace: str, source: int | None, answer: BinaryIO, faults: BinaryIO) -> Process:
         """`spbags check` of a trace, and the files of its report and of its faults."""
         command = [checker(), "check", "--depth", MOST_DEPTH, *self.checking, trace]
-        return subprocess.Popen(command, stdin=source, stdout=answer, stderr=faults)
+        files = {1: answer.fileno(), 2: faults.fileno(), **({} if source is None else {0: source})}
+        return Process(command, os.environ, files, AWAITED)
 
     def kept(self, trace: str, silent: bool, settings: dict[str, str]) -> Run:
         """A run whose trace and places are kept, and the report."""
-        said, answer, faults = Said(self.tell), memory_file(), memory_file()
+        pipe, answer, faults = RecordPipe(self.tell), memory_file(), memory_file()
         checker()
         settings = {**settings, "SPBAGS_TRACE": trace, "SPBAGS_PLACES": trace + ".places"}
-        run = self.wait(self.execute(said, {}, silent, settings), said, answer)
+        run = self.wait(self.execute(pipe, {}, silent, settings), pipe, answer)
         refuse_broken(run)
         return answered(run, self.check(trace, None, answer, faults), faults)
 
     def checked(self, silent: bool, files: dict[str, int], settings: dict[str, str]) -> Run:
         """A run whose trace goes through a pipe, and the report."""
-        said, answer, faults = Said(self.tell), memory_file(), memory_file()
+        pipe, answer, faults = RecordPipe(self.tell), memory_file(), memory_file()
         out, into = os.pipe()
         check = self.check("-", out, answer, faults)
         os.close(out)
-        program = self.execute(said, {"SPBAGS_TRACE": into, **files}, silent, settings)
+        program = self.execute(pipe, {"SPBAGS_TRACE": into, **files}, silent, settings)
         os.close(into)
-        return answered(self.wait(program, said, answer), check, faults)
+        return answered(self.wait(program, pipe, answer), check, faults)
 
     def looked(self, races: list[Race], files: dict[str, int], settings: dict[str, str]) -> Run:
         """A run that looks at the places of these races, and its notes."""
-        said, notes = Said(self.tell), memory_file()
+        pipe, notes = RecordPipe(self.tell), memory_file()
         settings = {"SPBAGS_MAX_BYTES": str(1 << 62), **settings}
         with stops_of(races) as stops:
             files = {"SPBAGS_TRACE": notes.fileno(), "SPBAGS_LOOK": stops.fileno(), **files}
-            program = self.execute(said, files, True, settings, races=len(races))
-        return self.wait(program, said, notes)
+            program = self.execute(pipe, files, True, settings, races=len(races))
+        return self.wait(program, pipe, notes)
 
 
 def answered(run: Run, check: Process, faults: BinaryIO) -> Run:
@@ -348,7 +298,7 @@ def wait_for_checker(check: Process) -> int | None:
         pass
     number = wait_for(check, None, lambda came: True)
     if number:
-        check.kill()
+        check.send_signal(signal.SIGKILL)
         check.wait()
     return number
 

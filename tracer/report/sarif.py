@@ -8,6 +8,7 @@ from urllib.parse import quote
 from report import source_lines, text
 from report.pairs import Pair, Side
 from report.result import Report
+from report.root import Root
 from report.source_lines import Position
 
 SCHEMA = "https://json.schemastore.org/sarif-2.1.0.json"
@@ -30,7 +31,7 @@ def uri_of(file: str) -> str:
 
 
 def artifact_of(file: str) -> Object:
-    relative = os.path.relpath(source_lines.path_of(file), source_lines.Root.folder)
+    relative = os.path.relpath(source_lines.path_of(file), Root.folder)
     is_below = relative.split(os.sep)[0] != os.pardir
     return {"uri": quote(os.fsencode(relative)), "uriBaseId": ROOT} if is_below else {"uri": uri_of(file)}
 

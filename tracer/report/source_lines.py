@@ -2,12 +2,12 @@
 import functools
 import os
 import re
-import subprocess
 from collections.abc import Iterable
 from typing import NamedTuple
 
 from installation import SYSTEM, is_own
 from report.failure import Failure
+from report.root import Root
 
 
 class _Position(NamedTuple):
@@ -39,6 +39,8 @@ SPAWNED, ON_THE_WAY = "::{lambda(__spbags_spawned", "__spbags_"
 
 def asked(*command: str, given: str = "") -> str:
     """What a program of binutils answers."""
+    import subprocess
+
     try:
         answer = subprocess.run(command, input=given, capture_output=True, text=True, errors="surrogateescape")
     except OSError as error:
@@ -59,12 +61,6 @@ def demangled(names: Iterable[str]) -> dict[str, str]:
 def pattern(text: str) -> str:
     """An expression for this text, in which `*` is anything."""
     return ".*".join(map(re.escape, text.split("*")))
-
-
-class Root:
-    """The folder from which files are named."""
-
-    folder = os.curdir
 
 
 @functools.lru_cache

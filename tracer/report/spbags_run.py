@@ -18,17 +18,23 @@ import os
 import re
 import sys
 from collections.abc import Callable
-from typing import TYPE_CHECKING, BinaryIO, TextIO
 
 from installation import VERSION
-from report import result, runs, source_lines, text
+from report import runs
 from report.failure import Failure, reason_of
 from report.program_input import disk_file
 from report.progress import Progress
+from report.root import Root
 
-# What is of use only for some answers is imported where they are made: a program without races waits for no more.
+# What is of use only for some answers is imported where they are made, and what is of use only behind a run there: the
+# program waits for no more.
+TYPE_CHECKING = False
 if TYPE_CHECKING:
+    from typing import BinaryIO, TextIO
+
     from report.later_runs import LaterRuns
+    from report.outcome import Run, Unseen
+    from report.result import Report
 
 
 def natural(word: str) -> int:
@@ -118,7 +124,7 @@ class Session:
             "SPBAGS_STREAMS": "1" if chosen.streams or not chosen.keep else "0",
             **({"SPBAGS_REPEATS": "1"} if chosen.repeats else {}),
         }
-        output = sys.stderr if (chosen.json or chosen.sarif) and not chosen.output else None
+        output = {1: 2} if (chosen.json or chosen.sarif) and not chosen.output else {}
         self.runner = runs.Runner(
             chosen.command,
             ["--shards", chosen.shards],
@@ -130,16 +136,19 @@ class Session:
         )
         self.later: LaterRuns | None = None
 
-    def tell_stuck(self, what: str, codes: list[int]) -> None:
+    def tell_stuck(self, line: str) -> None:
         """The program may wait for ever, so this line doesn't wait for the report."""
+        from report import messages, text
+
+        record = messages.record_of(line)
         try:
-            rows = text.stack_rows(self.runner.words[0], codes)
+            rows = text.stack_rows(self.runner.words[0], [int(code, 16) for code in record.words])
         except Failure:
             rows = []
         self.progress.erase()
-        print("\n".join([*text.told(what, width()), *rows]), file=sys.stderr, flush=True)
+        print("\n".join([*text.told(record.text, width()), *rows]), file=sys.stderr, flush=True)
 
-    def traced(self) -> tuple[runs.Run, BinaryIO | None]:
+    def traced(self) -> tuple[Run, BinaryIO | None]:
         """The first run, which alone prints, and the file of its places: it keeps them beside a trace that is kept, and
         where there is no other run."""
         keep = self.chosen.keep and os.path.abspath(self.chosen.keep)
@@ -151,7 +160,7 @@ class Session:
         places = disk_file()
         return self.runner.found(None, False, {"SPBAGS_PLACES": places.fileno()}, {}), places
 
-    def find(self) -> result.Report:
+    def find(self) -> Report:
         """The races, and the pairs of source positions. All that the first run found is reported, whatever comes of
         later ones, unless one with the same course shows that it is none."""
         with runs.memory_file() as waited:
@@ -169,16 +178,16 @@ class Session:
         others = [] if not run.others or self.later_runs().find_by_others(run) else run.others
         return self.report(run, notes, run.incomplete + waits + others + self.incomplete_later(run))
 
-    def runs_that_saw_more(self) -> list[runs.Run]:
+    def runs_that_saw_more(self) -> list[Run]:
         return self.later.more if self.later else []
 
-    def incomplete_later(self, run: runs.Run) -> list[str]:
+    def incomplete_later(self, run: Run) -> list[str]:
         """What only a run that saw more says; of what the first one says too it is known whether it still holds."""
         known = run.incomplete + run.waits + run.others
         every = dict.fromkeys(line for more in self.runs_that_saw_more() for line in more.incomplete)
         return [line for line in every if line not in known]
 
-    def unseen(self, run: runs.Run) -> list[runs.Unseen]:
+    def unseen(self, run: Run) -> list[Unseen]:
         """Functions that nothing is known of, each once."""
         every = [unseen for each in [run, *self.runs_that_saw_more()] for unseen in each.unseen]
         return list({unseen.function: unseen for unseen in reversed(every)}.values())[::-1]
@@ -192,10 +201,12 @@ class Session:
 
     def is_silenced(self, function: str) -> bool:
         """Whether --unseen-ok names it; the words of a C++ function needn't be there."""
-        shapes, patterns = (function, function.partition("(")[0]), map(source_lines.pattern, self.chosen.unseen_ok)
-        return any(re.fullmatch(pattern, shape) for pattern in patterns for shape in shapes)
+        from report.source_lines import pattern
 
-    def notes_of(self, run: runs.Run) -> list[str]:
+        shapes, patterns = (function, function.partition("(")[0]), map(pattern, self.chosen.unseen_ok)
+        return any(re.fullmatch(named, shape) for named in patterns for shape in shapes)
+
+    def notes_of(self, run: Run) -> list[str]:
         """What is to be said of the first run's end; without a race only a whole run has an answer."""
         has_races = self.later is not None and self.later.races > 0
         notes = list(run.seeming) if has_races else []
@@ -207,7 +218,9 @@ class Session:
             notes.append(f"the program ended with status {run.status}")
         return notes
 
-    def report(self, run: runs.Run, notes: list[str], incomplete: list[str]) -> result.Report:
+    def report(self, run: Run, notes: list[str], incomplete: list[str]) -> Report:
+        from report import result, text
+
         chosen, later = self.chosen, self.later
         found, races, without_stacks = (later.pairs, later.races, later.without_stacks) if later else ([], 0, 0)
         ignored = None
@@ -253,7 +266,9 @@ def has_colours(chosen: argparse.Namespace, output: TextIO) -> bool:
     return is_asked or chosen.color == "always"
 
 
-def text_of(found: result.Report, chosen: argparse.Namespace, output: TextIO) -> str:
+def text_of(found: Report, chosen: argparse.Namespace, output: TextIO) -> str:
+    from report import result, text
+
     if chosen.json or chosen.sarif:
         import json
 
@@ -275,19 +290,19 @@ def width() -> int:
     return shutil.get_terminal_size((120, 24)).columns
 
 
-def show(found: result.Report, chosen: argparse.Namespace) -> None:
+def show(found: Report, chosen: argparse.Namespace) -> None:
     name = chosen.output or sys.stdout.fileno()
     with open(name, "w", encoding="utf-8", errors="surrogateescape", closefd=bool(chosen.output)) as output:
         print(text_of(found, chosen, output), file=output)
 
 
-def status_of(found: result.Report, chosen: argparse.Namespace) -> int:
+def status_of(found: Report, chosen: argparse.Namespace) -> int:
     if found.pairs or found.not_shown.pairs:
         return int(chosen.exitcode)
     return 3 if (found.incomplete or found.unseen) and not chosen.incomplete_ok else 0
 
 
-def page_of(found: result.Report | None, chosen: argparse.Namespace) -> str:
+def page_of(found: Report | None, chosen: argparse.Namespace) -> str:
     """The report as HTML; without a report, only whether there can be any."""
     # Nothing else needs the folders of the system's packages.
     import site
@@ -322,9 +337,9 @@ def answer(chosen: argparse.Namespace) -> int:
 
 def main() -> int:
     chosen = options().parse_args()
-    source_lines.Root.folder = chosen.source_root
+    Root.folder = chosen.source_root
     try:
         return answer(chosen)
     except Exception as error:
         print(f"spbags-run: {reason_of(error)}", file=sys.stderr, flush=True)
-        os._exit(chosen.no_answer_status)
+        return int(chosen.no_answer_status)

@@ -13,8 +13,8 @@ from report.result import NO_OPENMP, THREAD_LOCAL, UNKNOWN_GUARD, Report
 from report.stack_rows import BOTH, Frame, Row, access_rows, allocation_rows, common_tail, place, rows, without_regions
 
 if TYPE_CHECKING:
+    from report.outcome import Unseen
     from report.pairs import MissingSync, Pair, Siblings, Variable
-    from report.runs import Unseen
     from report.suppressions import Used
 
 INDENT = " " * 4

@@ -2,6 +2,7 @@
 // With the word clean there is no race. A tag says how many bytes race, and on which lines.
 #include <cstdio>
 #include <cstring>
+#include <mutex>
 #include <new>
 #include <stdexcept>
 #include <string>
@@ -70,11 +71,16 @@ static void deletes() {
 #pragma omp taskwait
 }
 
-// Whoever comes first initialises the static.
+// Whoever comes first initialises the static, and does what is done once.
+static std::once_flag is_done;
+static int done;
 static void statics() {
     for (int i = 3; i < 6; i++)
 #pragma omp task firstprivate(i)
-        seen[i] = static_cast<int>(late().size());
+    {
+        std::call_once(is_done, [] { done = static_cast<int>(early.size()); });
+        seen[i] = static_cast<int>(late().size()) + done;
+    }
 #pragma omp taskwait
 }
 

@@ -95,6 +95,8 @@ static void doze(void) {
     nanosleep(&little, NULL); /* [dozes] */
 }
 
+static void spin_in_header(void);
+
 /* What could end these comes later in the serial order. */
 static void wait_for_ever(const char *way) {
     sem_t semaphore;
@@ -106,6 +108,8 @@ static void wait_for_ever(const char *way) {
             continue;
     while (strcmp(way, "doze") == 0)
         doze(); /* [calls doze] */
+    if (strcmp(way, "header") == 0)
+        spin_in_header(); /* [calls header] */
     if (strcmp(way, "wait") == 0)
         sem_wait(&semaphore); /* [waits] */
     pthread_mutex_t mutex = PTHREAD_MUTEX_INITIALIZER;
@@ -185,3 +189,10 @@ static void run(const char *way) {
 }
 
 int main(int count, char **words) { run(count > 1 ? words[1] : ""); }
+
+/* As if a header of the system had it. */
+#line 41 "/usr/include/spins.h"
+static void spin_in_header(void) {
+    while (cell == 2)
+        continue;
+}

@@ -45,7 +45,7 @@
 
 /* What the calls work on. Each try has memory of its own. */
 static char *a, *b, *c, *needle, *set, *space, *digits, *decimals, *two, *format;
-static char *pair, *scanned, *hour, *path, *other_path, *folder_path, *root, *made, *user, *address;
+static char *pair, *scanned, *hour, *real_format, *path, *other_path, *folder_path, *root, *made, *user, *address;
 static char *big, *other, *third, *many, *day, *environment, *random_state, *event, *compiled, *entry, *pieces, *message;
 static char *polled, *hints, *name, *page;
 static char **rest, **out, **words;
@@ -93,6 +93,7 @@ static void prepare_strings(void) {
     pair = block("42 alph");
     scanned = block("%d %s");
     hour = block("%H");
+    real_format = block("%.2f");
     path = block("/no/where/at/all");
     other_path = block("/other");
     folder_path = block("/abc/");

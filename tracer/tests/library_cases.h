@@ -1,4 +1,4 @@
-/* More cases of library.c, by the sections of library.table. */
+/* More cases of library.c, by the sections of library.table. What they work on is made there, by `prepare`. */
 #define AS(TYPE, BASE) ((TYPE *)(void *)(BASE))
 #define ONE(TYPE) 0, sizeof(TYPE)
 #define NUMBER(CALL) (sink = (int)(long)(CALL))
@@ -186,6 +186,9 @@ LOCAL_DECIMAL(strtof_l) LOCAL_DECIMAL(strtod_l) LOCAL_DECIMAL(strtold_l) LOCAL_D
 LOCAL_DECIMAL(__strtod_l) LOCAL_DECIMAL(__strtold_l)
 CASE(NUMBER(strtoq(digits, rest, 10)), R(digits, 0, 3), W(rest, 0, 8))
 CASE(NUMBER(strtouq(digits, rest, 10)), R(digits, 0, 3), W(rest, 0, 8))
+CASE(strfromd(a, ROOM, real_format, 1.5), R(real_format, 0, 5), W(a, 0, 5))
+CASE(strfromf(a, 3, real_format, 1.5f), R(real_format, 0, 5), W(a, 0, 3))
+CASE(strfroml(a, ROOM, real_format, 1.5l), R(real_format, 0, 5), W(a, 0, 5))
 
 /* ---- Mathematics ---- */
 #define PART(NAME, TYPE) CASE(NUMBER(NAME((TYPE)2.5, AS(int, big))), W(big, 0, 4))

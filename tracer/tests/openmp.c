@@ -1,10 +1,13 @@
 /* Ways of OpenMP that the report has to say something about, or that end the run. The word names the way, and a second
    one the status. */
 #include <omp.h>
+#include <setjmp.h>
 #include <stdbool.h>
+#include <stdint.h>
 #include <stdio.h>
 #include <stdlib.h>
 #include <string.h>
+#include <threads.h>
 
 static int one, other, after, row[9], counts[8];
 static int mine;
@@ -377,6 +380,79 @@ static void named_reach(bool reads_before) {
 static void named_once(void) { named_reach(false); }
 static void named_before(void) { named_reach(true); }
 
+/* The last thread reaches its own by its name: that races where the first one does this. */
+static void last_by_name(void) {
+#pragma omp parallel num_threads(2)
+    {
+        int local = 0;
+#pragma omp single
+        of_master = &local;
+#pragma omp for
+        for (int i = 0; i < 8; i++)
+            if (i == 7)
+                local = i; /* [last by name] */
+            else if (i == 1)
+                *of_master = i; /* [beside last name] */
+    }
+}
+
+/* No word of the memory is the pointer, or not any more once it has been read. */
+enum hiding { TAKEN, UNALIGNED, INVERTED };
+static int *to_take[8];
+static struct __attribute__((packed)) {
+    char before;
+    int *pointer;
+} unaligned;
+static uintptr_t inverted;
+
+static void hide(int *pointer) {
+    for (int i = 0; i < 8; i++)
+        to_take[i] = pointer;
+    unaligned.pointer = pointer;
+    inverted = ~(uintptr_t)pointer;
+}
+
+static int *hidden(enum hiding way, int i) {
+    if (way == TAKEN)
+        return __atomic_exchange_n(&to_take[i], NULL, __ATOMIC_RELAXED);
+    return way == UNALIGNED ? unaligned.pointer : (int *)~inverted;
+}
+
+static void hidden_reach(enum hiding way) {
+#pragma omp parallel num_threads(2)
+    {
+        int local = 0;
+#pragma omp single
+        hide(&local);
+#pragma omp for
+        for (int i = 0; i < 8; i++)
+            if (i == 3 || i == 4)
+                *hidden(way, i) += i; /* [hidden reach] */
+#pragma omp master
+        row[0] = local;
+    }
+}
+
+static void taken_reach(void) { hidden_reach(TAKEN); }
+static void unaligned_reach(void) { hidden_reach(UNALIGNED); }
+static void inverted_reach(void) { hidden_reach(INVERTED); }
+
+static void ordered_reach(void) {
+#pragma omp parallel num_threads(2)
+    {
+        int local = 0;
+#pragma omp single
+        of_master = &local;
+#pragma omp for ordered
+        for (int i = 0; i < 8; i++) {
+            if (i == 3 || i == 4)
+                *of_master += i; /* [ordered reach] */
+#pragma omp ordered
+            row[0] = i;
+        }
+    }
+}
+
 /* Who does an iteration of the first loop has what one of the second reaches: the last thread does both of these. */
 static void last_by_last(void) {
 #pragma omp parallel num_threads(2)
@@ -414,6 +490,37 @@ static void scratch(void) {
     }
 }
 
+/* A thread has the same iterations of both loops. */
+static void static_by_static(void) {
+#pragma omp parallel num_threads(2)
+    {
+        int own[4], done[8] = {0};
+#pragma omp for schedule(static)
+        for (int i = 0; i < 8; i++) {
+            set_all(own, i);
+            done[i] = 1;
+        }
+#pragma omp for schedule(static)
+        for (int i = 0; i < 8; i++)
+            if (!done[i])
+                abort();
+    }
+}
+
+/* What each iteration has of its own, and sums, need no other run. */
+static void of_iteration(void) {
+    int sum = 0;
+#pragma omp parallel num_threads(2)
+    {
+#pragma omp for reduction(+ : sum)
+        for (int i = 0; i < 8; i++) {
+            int own[4];
+            set_all(own, i);
+            sum += own[3];
+        }
+    }
+}
+
 /* The same thread does both single regions, in this run. */
 static void single_by_single(void) {
 #pragma omp parallel num_threads(2)
@@ -425,6 +532,42 @@ static void single_by_single(void) {
         ++*of_master; /* [single by single] */
         local++;      /* [beside single by single] */
 #pragma omp barrier
+    }
+}
+
+/* The same where another loop before needs a run in which another thread does its iterations. */
+static void single_behind_scratch(void) {
+#pragma omp parallel num_threads(2)
+    {
+        int own[4], local = 0;
+#pragma omp for
+        for (int i = 0; i < 8; i++)
+            set_all(own, i);
+#pragma omp single
+        of_master = &local;
+#pragma omp single nowait
+        ++*of_master; /* [single behind scratch] */
+        local++;      /* [beside single behind scratch] */
+#pragma omp barrier
+    }
+}
+
+/* Iterations of the first loop need such a run too, and one hands a pointer to iterations of the second: in both runs a
+   thread has what it reaches. */
+static void handed(void) {
+#pragma omp parallel num_threads(2)
+    {
+        int own[4];
+#pragma omp for
+        for (int i = 0; i < 8; i++) {
+            set_all(own, i);
+            if (i == 2)
+                of_master = own;
+        }
+#pragma omp for
+        for (int i = 0; i < 8; i++)
+            if (i == 3 || i == 4)
+                of_master[0] += i; /* [handed] */
     }
 }
 
@@ -604,6 +747,29 @@ static void reaches_own_in_loop(void) {
 #pragma omp parallel for num_threads(2)
     for (int i = 0; i < 8; i++)
         ++*of_master; /* [reaches own in loop] */
+}
+
+static void initialise(void) { one = 1; }
+
+static void once(void) {
+    static once_flag is_done = ONCE_FLAG_INIT;
+#pragma omp parallel num_threads(2)
+    {
+        call_once(&is_done, initialise);
+        if (one != 1)
+            abort();
+    }
+}
+
+/* A jump out of it. */
+static jmp_buf before;
+
+static void leave(void) { longjmp(before, 1); }
+
+static void left_once(void) {
+    static once_flag is_done = ONCE_FLAG_INIT;
+    if (setjmp(before) == 0)
+        call_once(&is_done, leave);
 }
 
 static void copies_own(void) {
@@ -901,9 +1067,18 @@ int main(int count, char **words) {
                 {"last_reach", last_reach, true},
                 {"named_once", named_once, true},
                 {"named_before", named_before, true},
+                {"last_by_name", last_by_name, true},
+                {"taken_reach", taken_reach, true},
+                {"unaligned_reach", unaligned_reach, true},
+                {"inverted_reach", inverted_reach, true},
+                {"ordered_reach", ordered_reach, true},
                 {"last_by_last", last_by_last, true},
                 {"scratch", scratch, true},
+                {"of_iteration", of_iteration, true},
+                {"static_by_static", static_by_static, true},
                 {"single_by_single", single_by_single, true},
+                {"single_behind_scratch", single_behind_scratch, true},
+                {"handed", handed, true},
                 {"single_others", single_others, true},
                 {"single_before", single_before, true},
                 {"single_own", single_own, true},
@@ -928,6 +1103,8 @@ int main(int count, char **words) {
                 {"task_of_single", task_of_single, true},
                 {"reaches_own", reaches_own, true},
                 {"reaches_own_in_loop", reaches_own_in_loop, true},
+                {"once", once, true},
+                {"left_once", left_once, false},
                 {"copies_own", copies_own, true},
                 {"exits", exits, true},
                 {"two_masters", two_masters, true},

@@ -45,7 +45,7 @@ enum view_update views_update_of(uintptr_t granule, unsigned shift, bool repeats
 
 struct recent_records recent_records;
 void recent_pass_on(void) {}
-void look_at_block(uintptr_t block, size_t size, uint64_t dead, uintptr_t stack_pointer, uintptr_t code) {
+void look_heap_note(uintptr_t block, size_t size, uint64_t dead, uintptr_t stack_pointer, uintptr_t code) {
     (void)block, (void)size, (void)dead, (void)stack_pointer, (void)code;
 }
 void look_at_structure(void) {}

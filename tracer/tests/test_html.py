@@ -121,7 +121,7 @@ class BrowserTest(EvilTest):
         self.assertEqual([f"{number:2}  {lines[number - 1]}" for number in map(int, (text.split()[0] for text in marked))],
                          marked)
         self.assertEqual(len(lines), value("document.querySelector('#p1 pre').innerText.split('\\n').length"))
-        drawn = value("document.querySelector('#p1 svg').textContent")
+        drawn = value("document.querySelector('#p1 .way').textContent")
         self.assertLess(drawn.index("both meet here"), drawn.index("spawns"))
         self.assertRegex(drawn, r"main\s*\S*:9 spawns\s*set\s*\S*:[45] write\s*main\s*\S*:1[01] write")
         self.assertEqual([], self.browser.messages())
@@ -156,7 +156,7 @@ class BrowserTest(EvilTest):
         """Text has at least the contrast 4.5 to 1 with what is behind it, light and dark."""
         for scheme in ("light", "dark"):
             value = self.opened(scheme=scheme)
-            for name in ("h1", "h3", "pre", "pre i", "mark", "a", "figcaption"):
+            for name in ("h1", "h3", "pre", "pre span", "mark", "a", "figcaption"):
                 with self.subTest(scheme, name=name):
                     self.assertLess(4.5, contrast(*(value(f"{expression}(document.querySelector('{name}'))") for expression in
                                                     ("(at => getComputedStyle(at).color)", BEHIND))))

@@ -232,10 +232,11 @@ class PagesTest(TracerTest):
         manual = shared_by_manual()
         if not manual.get("mbrtowc"):
             self.skipTest("there are no manual pages of the C library")
-        table = library.Table()
-        names = [name for name in [*table.names(), *library.silent()] if name in manual]
+        shared = {word: found.split(",") for sign in "=+" for word, found in library.words(sign)}
+        shared |= {name: function.shared for function in library.functions() for name in function.names}
+        names = [name for name in [*library.names(), *library.silent()] if name in manual]
         self.assertEqual({name: manual[name] for name in names if manual[name]},
-                         {name: words for name, words in table.shared().items() if name in names})
+                         {name: words for name, words in shared.items() if name in names and any(words)})
 
     def said_by(self, script, *words):
         return subprocess.run([f"{TRACER}/{script}", *words], stdout=subprocess.PIPE, text=True, check=True).stdout

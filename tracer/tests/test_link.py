@@ -291,8 +291,8 @@ class DetectorTest(LinkTest):
 
     @cases.needs_detector
     def test_words(self):
-        """An object is the same with all of these: the link goes by them."""
-        for words, has in (([], True), (["--inside"], True), (["--trace"], False), (["--trace", "--inside"], False)):
+        """An object is the same with both: the link goes by them."""
+        for words, has in (([], True), (["--trace"], False)):
             with self.subTest(words):
                 self.succeeds(SPBAGS_CC, *words, "-o", "fib", "fib.o")
                 self.assertEqual(has, " T spbags_new\n" in self.run_command("nm", "fib").out)

@@ -150,9 +150,17 @@ ANSWERS = [
     ("last_reach", 1, "", "some reach", "some reach", {}),
     ("named_once", 3, f"{at('beside name')}: this accesses a variable", "", "", {}),
     ("named_before", 3, f"{at('beside name')}: this accesses a variable", "", "", {}),
-    ("last_by_last", 3, f"{at('last by last')}: this accesses a variable", "", "", {}),
+    ("last_by_name", 1, "", "last by name", "beside last name", {}),
+    ("taken_reach", 1, "", "hidden reach", "hidden reach", {}),
+    ("unaligned_reach", 1, "", "hidden reach", "hidden reach", {}),
+    ("inverted_reach", 1, "", "hidden reach", "hidden reach", {}),
+    ("ordered_reach", 1, "", "ordered reach", "ordered reach", {}),
+    ("last_by_last", 1, "", "last by last", "last by last", {}),
     ("scratch", 0, "", "", "", {}),
+    ("static_by_static", 0, "", "", "", {}),
     ("single_by_single", 1, "", "single by single", "beside single by single", {}),
+    ("single_behind_scratch", 1, "", "single behind scratch", "beside single behind scratch", {}),
+    ("handed", 3, f"{at('handed')}: this accesses a variable", "", "", {}),
     ("single_first", 1, "", "in single", "beside construct", {}),
     ("single_others", 1, "", "in single", "beside construct", {}),
     ("single_before", 0, "", "", "", {}),
@@ -179,6 +187,8 @@ ANSWERS = [
     ("reaches_own", 3, f"{at('reaches own')}: this accesses what another", "", "", {}),
     ("reaches_own_in_loop", 1, f"{at('reaches own in loop')}: this accesses what another", "reaches own in loop",
      "reaches own in loop", {}),
+    ("once", 0, "", "", "", {}),
+    ("left_once", 3, "a jump or the run's end has left", "", "", {}),
     ("copies_own", 0, "", "", "", {}),
     ("exits", 3, f"{at('exits')}: the run ends inside", "", "", {}),
     ("two_masters", 0, "", "", "", {"SPBAGS_TEAM": "2"}),
@@ -239,6 +249,7 @@ class AnswersTest(OpenMPTest):
     def test_one_run(self):
         """There is no other run, so its lines stay."""
         self.reports(3, "Where another thread does that, by a pointer", "--one-run", "--", "./ways", "single_own")
+        self.reports(0, "", "--one-run", "--", "./ways", "of_iteration")
 
     def test_guards(self):
         with self.subTest("what is held"):
@@ -266,6 +277,22 @@ class TeamsTest(OpenMPTest):
                 with self.subTest(way, threads=threads):
                     self.succeeds("timeout", "60", "./teams", way, SPBAGS_TEAM=threads, SPBAGS_TRACE="run.trace")
                     self.assertEqual(race != "none", self.check("run.trace").status)
+
+    def constructs(self):
+        """What stands behind each call that asks for iterations, sections or a single region."""
+        asks = r"<(?:GOMP_(?:loop|sections|single)|__kmpc_(?:dispatch|for_static|single))\w*>\n +([0-9a-f]+):"
+        code = self.succeeds("objdump", "-d", "--no-show-raw-insn", "teams").out
+        return ",".join(str(int(one, 16)) for one in re.findall(asks, code))
+
+    def test_others(self):
+        """Where other threads do the parts of each construct, nothing of what these are for is lacking."""
+        others = self.constructs()
+        self.assertTrue(others)
+        for threads in "23":
+            for way in self.succeeds("./teams").out.splitlines():
+                with self.subTest(way, threads=threads):
+                    self.succeeds("timeout", "60", "./teams", way.split()[0], SPBAGS_TEAM=threads,
+                                  SPBAGS_TRACE="run.trace", SPBAGS_OTHERS=others)
 
     def test_answers(self):
         with self.subTest("threads of a region in the report"):

@@ -303,7 +303,8 @@ class ReportTest(RunTest):
         status, report = self.found()
         self.assertEqual((3, 0, []), (status, report["races"], report["pairs"]))
         modules = self.run_command(sys.executable, "-X", "importtime", SPBAGS_RUN, "--", "./run").errors
-        for name, is_read in (("report.runs", True), ("report.pairs", False), ("report.variables", False), ("tokens", False)):
+        for name, is_read in (("report.runs", True), ("report.pairs", False), ("report.variables", False), ("tokens", False),
+                              ("subprocess", False), ("dataclasses", False)):
             self.assertEqual(is_read, re.search(rf"(?m)\| +{re.escape(name)}$", modules) is not None, name)
 
 
@@ -950,6 +951,12 @@ class EndlessTest(RunTest):
                 self.assertEqual((1, number, True, 1),
                                  (status, report["ended"]["signal"], report["stacks"], report["races"]))
                 self.assertRegex(report["notes"][0], rf"signal {number} \(.*\), which was sent to spbags-run")
+
+    def test_spins_in_header(self):
+        """The loop's own place comes first."""
+        (_, header, *rows), _, _ = self.ended_while_it_waits("header", signal.SIGTERM, 4)
+        self.assertRegex(header, "^    /usr/include/spins.h:4[23] +spin_in_header")
+        self.assertEqual(["[calls header]", "[for ever]", "[spawn end]"], self.lines_in("ends.c", "".join(rows)))
 
     def test_control_c(self):
         """A terminal's signal is the program's too, so it isn't sent on."""

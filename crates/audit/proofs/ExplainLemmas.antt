@@ -4,7 +4,7 @@ use Rattle.dag.specs.declared.records.Record.TheVariants as records
 use Rattle.dag.specs.Bounds.{most_records}
 use Rattle.audit.specs.declared.explanations.Reported.{Reported}
 use Rattle.audit.proofs.ListLemmas.{place_there, record_there}
-use Rattle.audit.proofs.PathLemmas.{step_by, step_out}
+use Rattle.audit.proofs.PathLemmas.{step_by, step_out, holds_on}
 use Rattle.audit.proofs.MeetingLemmas.{met_next}
 use Rattle.audit.proofs.PairLemmas.{race_writes}
 use Rattle.audit.proofs.TrailLemmas.{IsOpenerCount, IsLastOpener, openers_below, meeting_at_last, trail_next}
@@ -252,18 +252,6 @@ module _ (s : Explaining) (a : Access) where
     pub keeps_this_read : (x : Trail) → IfSome s.kept_reader (DecidesNow s.meetings false) → s'.kept_reader ≡ Some x → x.place ≡ a.place → x.openers.items ≡ s.openers.items → Keeps s a s'
     keeps_this_read x ordered f place openers = keeps_read (λ l u met at-next w rest is n d h y v r. subst (KeepsReader w l (suc (length u))) (sym f)
         (reader_moves w h l (length u) s.kept_reader x r y (ordered_read s.meetings u l s.kept_reader met ordered w rest is n d h r (l, inl y)) (place ∙ at-next) (subst (IsTrail w (suc (length u))) (sym openers) v)))
-
--- a procedure that holds a place, and the next one
-
-holds_on : (w : List Record) (m j : ℕ) → Holds w m j → level w m ≤ depth w (suc j) → Holds w m (suc j)
-holds_on w m j x l = record {
-  opener = x.opener;
-  after = omega (arith, x.after);
-  inside = λ q y z. elim (cases_eq q (suc j)) [
-    | inl i ↦ (let e : depth w q ≡ depth w (suc j) = ap (depth w) i in omega arith)
-    | inr i ↦ x.inside q y (omega arith)
-  ];
-}
 
 module _ (w : List Record) {n c : ℕ} (h : IsWellNested w n c) (t : ℕ) where
   access_depth : (l : ℕ) (k : Kind) → at w (suc t) ≡ Some (access k l) → suc (suc t) ≤ length w → depth w (suc (suc t)) ≡ depth w (suc t)

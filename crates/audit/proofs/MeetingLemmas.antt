@@ -2,7 +2,7 @@
 use Rattle.audit.proofs.Common.{◌≡◌, ℕ, suc, ◌-◌, ◌<◌, ◌≤◌, ◌↔◌, Bool, true, false, List, [], ◌∷◌, ◌++◌, length, take, slice_get, get_or, nat_lt, Some, ◌⊎◌, inl, inr, refl, sym, ◌∙◌, subst, ap, arith, append_assoc, length-append, cases_lt, cases_eq, ltb-true, ltb-false, length-take-le, slice_get_within, slice_get-get_or, get_or_from_slice_get, IsPartitionedBy, IsPartitionPoint, IsPartitionedBy-ltb, Record, Spawn, Call, Return, Sync, Placed, at, depth, IsPlace, IsWellNested, IsParallel, IsAccessPlace, level, Opens, Holds, IsMeeting, IsOwn, InOneBlock, access-place, level-at, opens-no_sync, root-holds, holds_from, holds-deeper, holds-shorter, Opened, opened_at, opened-holds, opened_below, opened-child, stand_of, OwnSync, own_sync-is, is_own_sync, block_same, block_less, stand-after, stand-le, before-stand, parallel-block, Active, Turn, Meetings, ComesAfter, WhateverComes, IsActive, AreActive, ActiveAt, waits, executes, IsActivesOwn, HasTurn, AreTurns, AreMet, HasMet, IsLastOpenedBefore, DecidesUnjoined, DecidesUnjoinedAfter, DecidesTurn, DecidesParallel, EndsIn, TakesTurn, OpensChild, Leaves, Syncs, Moves, slice_get-front, slice_get-last, element_at}
 use Rattle.dag.specs.declared.records.Record.TheVariants.{Read, Write}
 use Rattle.audit.proofs.ListLemmas.{slice_get-push, slice_get-take, take-slice_get, place_there, record_there}
-use Rattle.audit.proofs.PathLemmas.{step_by, step_out}
+use Rattle.audit.proofs.PathLemmas.{step_by, step_out, holds_on}
 
 module _ (w : List Record) {n d : ℕ} (h : IsWellNested w n d) (t : ℕ) (e : Active) (xs : List Active) (a : AreActive w t e xs) where
   is_active : (k : ℕ) (f : Active) → ActiveAt e xs k f → IsActive w t k f
@@ -339,14 +339,7 @@ module _ (w : List Record) {n d : ℕ} (h : IsWellNested w n d) (t : ℕ) where
   stays : (k : ℕ) (f : Active) → k ≤ depth w (suc (suc t)) → (depth w (suc t) ≡ k → at w (suc t) ≡ Some Sync → ⊥) → IsActive w t k f → IsActive w (suc t) k f
   stays k f l m x = record {
     on_level = x.on_level;
-    holds = record {
-      opener = x.holds.opener;
-      after = omega (arith, x.holds.after);
-      inside = λ q y z. elim (cases_eq q (suc (suc t))) [
-        | inl i ↦ (let j : depth w q ≡ depth w (suc (suc t)) = ap (depth w) i in omega (arith, x.on_level))
-        | inr i ↦ x.holds.inside q y (omega arith)
-      ];
-    };
+    holds = holds_on w _ (suc t) x.holds (omega (arith, x.on_level));
     last_sync = x.last_sync;
     upto = omega (arith, x.upto);
     none_since = λ q y z i s. elim (cases_eq q (suc t)) [
@@ -359,14 +352,7 @@ module _ (w : List Record) {n d : ℕ} (h : IsWellNested w n d) (t : ℕ) where
       → IsActive w (suc t) (depth w (suc (suc t))) (record { opened = f.opened; synced = suc t; turns = f.turns })
   synced f e s x = record {
     on_level = x.on_level ∙ sym e;
-    holds = record {
-      opener = x.holds.opener;
-      after = omega (arith, x.holds.after);
-      inside = λ q y z. elim (cases_eq q (suc (suc t))) [
-        | inl i ↦ (let j : depth w q ≡ depth w (suc (suc t)) = ap (depth w) i in omega (arith, x.on_level))
-        | inr i ↦ x.holds.inside q y (omega arith)
-      ];
-    };
+    holds = holds_on w _ (suc t) x.holds (omega (arith, x.on_level));
     last_sync = inr (record { held = x.holds; on_level = sym x.on_level }, s);
     upto = omega arith;
     none_since = λ q y z i j. omega arith;

@@ -1,5 +1,5 @@
 -- The longest paths of a well nested trace, one place after another.
-use Rattle.audit.proofs.Common.{◌≡◌, ◌≢◌, ℕ, zero, suc, ◌<◌, ◌≤◌, max, Bool, true, false, List, [], ◌∷◌, length, Option, Some, ◌⊎◌, inl, inr, refl, sym, ◌∙◌, subst, ap, arith, cases_lt, cases_eq, Record, Spawn, Call, Return, Sync, at, depth, IsPlace, IsWellNested, Edge, continuation, spawn, call, comes_back, join, IsContinuation, IsComeback, IsJoin, JoinsAt, IsPath, end_of, Opens, Suspended, PathTo, IsLongestTo, LastOn, IsReturnOf, LeadsOn, at_start, own, opened, came_back, IsUnjoinedReturn, IsLongestUnjoined, opened_by, IsSuspended}
+use Rattle.audit.proofs.Common.{◌≡◌, ◌≢◌, ℕ, zero, suc, ◌<◌, ◌≤◌, max, Bool, true, false, List, [], ◌∷◌, length, Option, Some, ◌⊎◌, inl, inr, refl, sym, ◌∙◌, subst, ap, arith, cases_lt, cases_eq, Record, Spawn, Call, Return, Sync, at, depth, IsPlace, IsWellNested, Edge, continuation, spawn, call, comes_back, join, IsContinuation, IsComeback, IsJoin, JoinsAt, IsPath, end_of, Opens, Suspended, PathTo, IsLongestTo, LastOn, IsReturnOf, LeadsOn, at_start, own, opened, came_back, IsUnjoinedReturn, IsLongestUnjoined, opened_by, IsSuspended, Holds, level}
 use Rattle.dag.proofs.World.{Step, Reach, here, next, leaves, leaves_by, reach-return}
 use Rattle.dag.proofs.Traced.{traced, shape_of, is_call, opener_of, opener-is, shape-return, returns-shape, step_at, edge_from, edge_to, trace_edge}
 
@@ -381,3 +381,15 @@ module _ (w : List Record) {n d : ℕ} (h : IsWellNested w n d) where
       reached (inl f) = let i : z ≡ max y z = omega arith in inr (suc t, here, subst (λ (x : ℕ). PathTo w x (suc t)) i l.reached)
       reached (inr f) = let i : y ≡ max y z = omega arith in
           subst (λ (x : ℕ). (x ≡ 0) ⊎ ((r : ℕ) × IsUnjoinedReturn w (suc t) k r × PathTo w x r)) i (later_reached t k y elsewhere u.reached)
+
+-- a procedure that holds a place, and the next one
+
+pub holds_on : (w : List Record) (m j : ℕ) → Holds w m j → level w m ≤ depth w (suc j) → Holds w m (suc j)
+holds_on w m j x l = record {
+  opener = x.opener;
+  after = omega (arith, x.after);
+  inside = λ q y z. elim (cases_eq q (suc j)) [
+    | inl i ↦ (let e : depth w q ≡ depth w (suc j) = ap (depth w) i in omega arith)
+    | inr i ↦ x.inside q y (omega arith)
+  ];
+}

@@ -4,7 +4,7 @@ use Rattle.dag.specs.declared.records.Record.TheVariants as records
 use Rattle.audit.specs.declared.answers.Opening.{Opening}
 use Rattle.audit.specs.declared.answers.Opening.TheVariants.{Spawn, Call}
 use Rattle.audit.proofs.ListLemmas.{slice_get-push}
-use Rattle.audit.proofs.PathLemmas.{step_by, step_out}
+use Rattle.audit.proofs.PathLemmas.{step_by, step_out, holds_on}
 
 slice_get-drop : {A : Type 0} (n : ℕ) (xs : List A) (k : ℕ) → slice_get (drop n xs) k ≡ slice_get xs (n + k)
 slice_get-drop zero xs k = let e : k ≡ 0 + k = omega arith in ap (slice_get xs) e
@@ -154,14 +154,7 @@ module _ (w : List Record) {n d : ℕ} (h : IsWellNested w n d) (t : ℕ) (b : s
   link_stays : (k : ℕ) (f : Opener) → suc k ≤ depth w (suc (suc t)) → IsLink w (suc t) k f → IsLink w (suc (suc t)) k f
   link_stays k f l x = record {
     on_level = x.on_level;
-    holds = record {
-      opener = x.holds.opener;
-      after = omega (arith, x.holds.after);
-      inside = λ q y z. elim (cases_eq q (suc (suc t))) [
-        | inl i ↦ (let j : depth w q ≡ depth w (suc (suc t)) = ap (depth w) i in omega (arith, x.on_level))
-        | inr i ↦ x.holds.inside q y (omega arith)
-      ];
-    };
+    holds = holds_on w _ (suc t) x.holds (omega (arith, x.on_level));
     opens = x.opens;
   }
 

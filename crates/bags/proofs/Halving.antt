@@ -18,10 +18,6 @@ digits_most n h = length-digits_of-le 2 64 n (omega arith) h
 pub below_digits : (n : ℕ) → n < 2 ^ digits n
 below_digits n = lt_of_not-le (λ h. omega (arith, digits_from (digits n) n h))
 
--- fewer numbers have no more digits
-pub digits_of_fewer : (m n : ℕ) → m ≤ n → digits m ≤ digits n
-digits_of_fewer m n h = length-digits_of-le 2 (digits n) m (omega arith) (omega (arith, below_digits n))
-
 -- the greatest power of two that is not above a number
 pub digits_are : (n j : ℕ) → 2 ^ j ≤ n → n < 2 ^ suc j → digits n ≡ suc j
 digits_are n j low high = omega (arith, digits_from j n low, length-digits_of-le 2 (suc j) n (omega arith) high)
@@ -159,9 +155,6 @@ from_middle len step some long apart =
 
 pub from_second : (len step : ℕ) → 1 < len → 2 * step ≡ 2 ^ digits len → len ≡ step → IsStart len (record { longest = step; middle = 1 })
 from_second len step some long same = record { long = long; within = omega arith; newer = omega arith; exact = λ other. absurd (other refl) }
-
-pub from_only : (len step : ℕ) → len ≡ 1 → 2 * step ≡ 2 ^ digits len → len ≡ step → IsStart len (record { longest = step; middle = 0 })
-from_only len step one long same = record { long = long; within = omega arith; newer = omega arith; exact = λ _. omega arith }
 
 -- a step that is left
 record IsStep (step halvings : ℕ) : Type 0 where

@@ -10,19 +10,27 @@ opening is_called = if is_called then call else spawn
 abbrev pub closing : Bool → Shape
 closing is_called = if is_called then called_return else spawned_return
 
+-- a place of a procedure at level d, up to the one after t, with no place above the level since
+pub record Home (v : World) (proc : ℕ → ℕ) (t d own : ℕ) (is_called : Bool) : Type 0 where
+  pub place : ℕ
+  pub from_one : 1 ≤ place
+  pub upto : place ≤ suc t
+  pub is_own : proc place ≡ own
+  pub level : v.depth place ≡ d
+  pub above : (k : ℕ) → place ≤ k → k ≤ suc t → d ≤ v.depth k
+  pub opened : 1 < place → v.shape (place - 1) ≡ opening is_called
+
+home_stays : (v : World) (proc : ℕ → ℕ) (t d own : ℕ) (is_called : Bool) → d ≤ v.depth (suc (suc t)) → Home v proc t d own is_called → Home v proc (suc t) d own is_called
+home_stays v proc t d own is_called l s =
+    record { place = s.place; from_one = s.from_one; upto = omega (arith, s.upto); is_own = s.is_own; level = s.level; above = all_more v.depth d s.place (suc t) s.above l; opened = s.opened }
+
 -- an active procedure at level d, for the places up to m; places are executed by the procedures `proc`
 pub record Stands (v : World) (proc : ℕ → ℕ) (m t count d : ℕ) (f : Active) : Type 0 where
   pub serial : (i : ℕ) → 1 ≤ i → i ≤ m → set.contains f.serial (proc i) ≡ true → Serial v t d i
   pub parallel : (i : ℕ) → 1 ≤ i → i ≤ m → set.contains f.parallel (proc i) ≡ true → Kept v t d i
   pub serial_below : (p : ℕ) → set.contains f.serial p ≡ true → p < count
   pub parallel_below : (p : ℕ) → set.contains f.parallel p ≡ true → p < count
-  pub home : ℕ
-  pub home_from : 1 ≤ home
-  pub home_upto : home ≤ suc t
-  pub home_own : proc home ≡ f.own
-  pub home_level : v.depth home ≡ d
-  pub home_above : (k : ℕ) → home ≤ k → k ≤ suc t → d ≤ v.depth k
-  pub opened : 1 < home → v.shape (home - 1) ≡ opening f.is_called
+  pub home : Home v proc t d f.own f.is_called
 
 pub data AllStand (v : World) (proc : ℕ → ℕ) (m t count : ℕ) : List Active → Type 0 where
   none : AllStand v proc m t count []
@@ -76,12 +84,6 @@ more_stand v proc m t count d f a b h = record {
   serial_below = h.serial_below;
   parallel_below = h.parallel_below;
   home = h.home;
-  home_from = h.home_from;
-  home_upto = h.home_upto;
-  home_own = h.home_own;
-  home_level = h.home_level;
-  home_above = h.home_above;
-  opened = h.opened;
 }
 
 -- the next place is executed by a procedure whose own place is known: it stands at that place's level
@@ -115,12 +117,6 @@ more_of_new v proc t old count d f n s l = more_stand v proc t t count d f
       serial_below = λ p c. omega (arith, s.serial_below p c);
       parallel_below = λ p c. omega (arith, s.parallel_below p c);
       home = s.home;
-      home_from = s.home_from;
-      home_upto = s.home_upto;
-      home_own = s.home_own;
-      home_level = s.home_level;
-      home_above = s.home_above;
-      opened = s.opened;
     })
 
 more_of_new_all : (v : World) (proc : ℕ → ℕ) (t old count : ℕ) (fs : List Active) → old ≤ proc (suc t)
@@ -138,13 +134,7 @@ stays v proc m t count d f l n s = record {
   parallel = λ i x y c. kept_stays v t d i l n (s.parallel i x y c);
   serial_below = s.serial_below;
   parallel_below = s.parallel_below;
-  home = s.home;
-  home_from = s.home_from;
-  home_upto = omega (arith, s.home_upto);
-  home_own = s.home_own;
-  home_level = s.home_level;
-  home_above = all_more v.depth d s.home (suc t) s.home_above l;
-  opened = s.opened;
+  home = home_stays v proc t d f.own f.is_called l s.home;
 }
 
 stay : (v : World) (proc : ℕ → ℕ) (m t count : ℕ) (fs : List Active) → length fs ≤ suc (v.depth (suc (suc t))) → (joins (v.shape (suc t)) ≡ true → length fs ≤ v.depth (suc t))
@@ -166,13 +156,7 @@ syncs v proc m t count d f b j e l s = record {
   parallel = λ i x y c. in_none (proc i) c;
   serial_below = λ p c. elim (in_union f.serial f.parallel p c) [ inl q ↦ s.serial_below p q | inr q ↦ s.parallel_below p q ];
   parallel_below = λ p c. in_none p c;
-  home = s.home;
-  home_from = s.home_from;
-  home_upto = omega (arith, s.home_upto);
-  home_own = s.home_own;
-  home_level = s.home_level;
-  home_above = all_more v.depth d s.home (suc t) s.home_above l;
-  opened = s.opened;
+  home = home_stays v proc t d f.own f.is_called l s.home;
 }
 
 -- a return
@@ -205,13 +189,7 @@ closes v proc t count d f g b e a l u s = record {
     | inl q ↦ s.parallel_below p q
     | inr q ↦ elim (in_union g.serial g.parallel p q) [ inl w ↦ u.serial_below p w | inr w ↦ u.parallel_below p w ]
   ];
-  home = s.home;
-  home_from = s.home_from;
-  home_upto = omega (arith, s.home_upto);
-  home_own = s.home_own;
-  home_level = s.home_level;
-  home_above = all_more v.depth d s.home (suc t) s.home_above (omega arith);
-  opened = s.opened;
+  home = home_stays v proc t d f.own f.is_called (omega arith) s.home;
 }
 
 -- what the parent f keeps where its child g was called
@@ -242,13 +220,7 @@ comes_back v proc t count d f g b e a l u s = record {
     | inr q ↦ elim (in_union g.serial g.parallel p q) [ inl w ↦ u.serial_below p w | inr w ↦ u.parallel_below p w ]
   ];
   parallel_below = s.parallel_below;
-  home = s.home;
-  home_from = s.home_from;
-  home_upto = omega (arith, s.home_upto);
-  home_own = s.home_own;
-  home_level = s.home_level;
-  home_above = all_more v.depth d s.home (suc t) s.home_above (omega arith);
-  opened = s.opened;
+  home = home_stays v proc t d f.own f.is_called (omega arith) s.home;
 }
 
 -- no procedure is lost
@@ -289,16 +261,15 @@ somewhere_below v proc m t count (f ∷ fs) p (one_more s r) h = elim (or_cases 
 -- one record
 
 -- the next place is executed by the first active procedure, which has a place already
-pub finish : (v : World) (proc : ℕ → ℕ) (t count y : ℕ) (f : Active) (fs : List Active) → suc (suc t) ≤ v.size → 1 ≤ y → y ≤ suc t → proc y ≡ f.own → v.depth y ≡ length fs
-    → ((k : ℕ) → y ≤ k → k ≤ suc t → length fs ≤ v.depth k) → length fs ≡ v.depth (suc (suc t)) → proc (suc (suc t)) ≡ f.own
+pub finish : (v : World) (proc : ℕ → ℕ) (t count : ℕ) (f : Active) (fs : List Active) → suc (suc t) ≤ v.size → Home v proc t (length fs) f.own f.is_called → length fs ≡ v.depth (suc (suc t)) → proc (suc (suc t)) ≡ f.own
     → AllStand v proc (suc t) (suc t) count (f ∷ fs) → ((i : ℕ) → 1 ≤ i → i ≤ suc t → somewhere (f ∷ fs) (proc i) ≡ true)
     → Invariant v proc (suc t) count (f ∷ fs)
-finish v proc t count y f fs b x l o e h d n s a = record {
+finish v proc t count f fs b home d n s a = record {
   deep = omega arith;
-  each = more_of_known_all v proc (suc t) count y (f ∷ fs) b x (omega arith) (n ∙ sym o) (omega arith)
-      (all_more v.depth (v.depth y) y (suc t) (λ k p q. omega (arith, h k p q)) (omega arith)) s;
+  each = more_of_known_all v proc (suc t) count home.place (f ∷ fs) b home.from_one (omega (arith, home.upto)) (n ∙ sym home.is_own) (omega (arith, home.level))
+      (all_more v.depth (v.depth home.place) home.place (suc t) (λ k p q. omega (arith, home.above k p q, home.level)) (omega (arith, home.level))) s;
   stand = λ i p q. elim (cases_eq i (suc (suc t))) [
-    | inl z ↦ ap (λ (j : ℕ). somewhere (f ∷ fs) j) (ap proc z ∙ (n ∙ sym o)) ∙ a y x l
+    | inl z ↦ ap (λ (j : ℕ). somewhere (f ∷ fs) j) (ap proc z ∙ (n ∙ sym home.is_own)) ∙ a home.place home.from_one home.upto
     | inr z ↦ a i p (omega arith)
   ];
 }
@@ -309,7 +280,7 @@ at_access v proc t count [] b n d p h = absurd (omega (arith, h.deep))
 at_access v proc t count (f ∷ fs) b n d p h = from_top h.each
   where
     from_top : AllStand v proc (suc t) t count (f ∷ fs) → Invariant v proc (suc t) count (f ∷ fs)
-    from_top (one_more s r) = finish v proc t count s.home f fs b s.home_from s.home_upto s.home_own s.home_level s.home_above (omega (arith, h.deep)) p
+    from_top (one_more s r) = finish v proc t count f fs b s.home (omega (arith, h.deep)) p
         (stay v proc (suc t) t count (f ∷ fs) (omega (arith, h.deep)) (λ j. absurd (both_ways _ n j)) h.each) h.stand
 
 pub at_sync : (v : World) (proc : ℕ → ℕ) (t count : ℕ) (fs : List Active) → suc (suc t) ≤ v.size → joins (v.shape (suc t)) ≡ true → v.depth (suc (suc t)) ≡ v.depth (suc t)
@@ -318,7 +289,7 @@ at_sync v proc t count [] b n d p h = absurd (omega (arith, h.deep))
 at_sync v proc t count (f ∷ fs) b n d p h = from_top h.each
   where
     from_top : AllStand v proc (suc t) t count (f ∷ fs) → Invariant v proc (suc t) count (synced f ∷ fs)
-    from_top (one_more s r) = finish v proc t count s.home (synced f) fs b s.home_from s.home_upto s.home_own s.home_level s.home_above (omega (arith, h.deep)) p
+    from_top (one_more s r) = finish v proc t count (synced f) fs b s.home (omega (arith, h.deep)) p
         (one_more (syncs v proc (suc t) t count (length fs) f (omega arith) n (omega (arith, h.deep)) (omega (arith, h.deep)) s)
         (stay v proc (suc t) t count fs (omega (arith, h.deep)) (λ j. omega (arith, h.deep)) r))
         (λ i x y. somewhere-synced f fs (proc i) ∙ h.stand i x y)
@@ -337,18 +308,18 @@ opening_step v o is_called a b e = by_kind is_called (subst (λ (x : Shape). Ste
 -- the executing procedure is ended as it was opened
 ended : (v : World) (proc : ℕ → ℕ) (t count d : ℕ) (g : Active) → v.depth 1 ≡ 0 → suc (suc t) ≤ v.size → v.depth (suc t) ≡ suc d → IsEnding v (suc t)
     → Stands v proc (suc t) t count (suc d) g → v.shape (suc t) ≡ closing g.is_called
-ended v proc t count d g root b a ends u = from_home u.home refl
+ended v proc t count d g root b a ends u = from_home u.home.place refl
   where
-    from_home : (h : ℕ) → u.home ≡ h → v.shape (suc t) ≡ closing g.is_called
-    from_home zero e = absurd (omega (arith, u.home_from))
-    from_home (suc zero) e = let level : v.depth u.home ≡ v.depth 1 = ap v.depth e in absurd (omega (arith, u.home_level))
+    from_home : (h : ℕ) → u.home.place ≡ h → v.shape (suc t) ≡ closing g.is_called
+    from_home zero e = absurd (omega (arith, u.home.from_one))
+    from_home (suc zero) e = let level : v.depth u.home.place ≡ v.depth 1 = ap v.depth e in absurd (omega (arith, u.home.level))
     from_home (suc (suc o)) e =
-        let before : u.home - 1 ≡ suc o = omega arith in
-        let shape : v.shape (suc o) ≡ opening g.is_called = ap v.shape (sym before) ∙ u.opened (omega arith) in
-        let up : v.depth (suc (suc o)) ≡ suc (v.depth (suc o)) = opening_step v (suc o) g.is_called (omega arith) (omega (arith, u.home_upto)) shape in
-        let level : v.depth u.home ≡ v.depth (suc (suc o)) = ap v.depth e in
-        ends (suc o) g.is_called (omega arith) (omega (arith, u.home_upto)) (omega (arith, u.home_level))
-        (λ k x y. let above : suc d ≤ v.depth k = u.home_above k (omega arith) y in omega arith) shape
+        let before : u.home.place - 1 ≡ suc o = omega arith in
+        let shape : v.shape (suc o) ≡ opening g.is_called = ap v.shape (sym before) ∙ u.home.opened (omega arith) in
+        let up : v.depth (suc (suc o)) ≡ suc (v.depth (suc o)) = opening_step v (suc o) g.is_called (omega arith) (omega (arith, u.home.upto)) shape in
+        let level : v.depth u.home.place ≡ v.depth (suc (suc o)) = ap v.depth e in
+        ends (suc o) g.is_called (omega arith) (omega (arith, u.home.upto)) (omega (arith, u.home.level))
+        (λ k x y. let above : suc d ≤ v.depth k = u.home.above k (omega arith) y in omega arith) shape
 
 pub at_return : (v : World) (proc : ℕ → ℕ) (t count : ℕ) (fs : List Active) → v.depth 1 ≡ 0 → suc (suc t) ≤ v.size → IsEnding v (suc t) → v.depth (suc t) ≡ suc (v.depth (suc (suc t)))
     → proc (suc (suc t)) ≡ current (after_return fs) → Invariant v proc t count fs → Invariant v proc (suc t) count (after_return fs)
@@ -360,13 +331,13 @@ at_return v proc t count (g ∷ f ∷ fs) root b n d p h = from_top h.each
         → AllStand v proc (suc t) t count fs → Invariant v proc (suc t) count (adopts f g ∷ fs)
     by_kind false e n u s r =
         subst (λ (a : Active). Invariant v proc (suc t) count (a ∷ fs)) (sym (adopts_spawned f g e))
-        (finish v proc t count s.home (taken f g) fs b s.home_from s.home_upto s.home_own s.home_level s.home_above (omega (arith, h.deep)) p
+        (finish v proc t count (taken f g) fs b s.home (omega (arith, h.deep)) p
         (one_more (closes v proc t count (length fs) f g b n (omega (arith, h.deep)) (omega (arith, h.deep)) u s)
         (stay v proc (suc t) t count fs (omega (arith, h.deep)) (λ j. omega (arith, h.deep)) r))
         (λ i x y. somewhere-takes_in f g fs (proc i) ∙ h.stand i x y))
     by_kind true e n u s r =
         subst (λ (a : Active). Invariant v proc (suc t) count (a ∷ fs)) (sym (adopts_called f g e))
-        (finish v proc t count s.home (taken_back f g) fs b s.home_from s.home_upto s.home_own s.home_level s.home_above (omega (arith, h.deep)) p
+        (finish v proc t count (taken_back f g) fs b s.home (omega (arith, h.deep)) p
         (one_more (comes_back v proc t count (length fs) f g b n (omega (arith, h.deep)) (omega (arith, h.deep)) u s)
         (stay v proc (suc t) t count fs (omega (arith, h.deep)) (λ j. omega (arith, h.deep)) r))
         (λ i x y. somewhere-takes_back f g fs (proc i) ∙ h.stand i x y))
@@ -391,13 +362,15 @@ at_enter v proc t count fs is_called b n d p h = record {
     parallel = λ i x y c. in_none (proc i) c;
     serial_below = λ q c. omega (arith, in_one count q c);
     parallel_below = λ q c. in_none q c;
-    home = suc (suc t);
-    home_from = omega arith;
-    home_upto = omega arith;
-    home_own = p;
-    home_level = omega (arith, h.deep);
-    home_above = λ k x y. (let e : v.depth k ≡ v.depth (suc (suc t)) = ap v.depth (only k t x y) in omega (arith, h.deep));
-    opened = λ more. ap v.shape one_back ∙ n;
+    home = record {
+      place = suc (suc t);
+      from_one = omega arith;
+      upto = omega arith;
+      is_own = p;
+      level = omega (arith, h.deep);
+      above = λ k x y. (let e : v.depth k ≡ v.depth (suc (suc t)) = ap v.depth (only k t x y) in omega (arith, h.deep));
+      opened = λ more. ap v.shape one_back ∙ n;
+    };
   }) (more_of_new_all v proc (suc t) count (count + 1) fs (omega arith)
       (stay v proc (suc t) t count fs (omega (arith, h.deep)) (λ j. absurd (both_ways _ (ap joins n ∙ joins_not is_called) j)) h.each) (omega arith));
   stand = λ i x y. elim (cases_eq i (suc (suc t))) [
@@ -437,13 +410,7 @@ at_start v proc d p = record {
     parallel = λ i x y c. in_none (proc i) c;
     serial_below = λ q c. omega (arith, in_one 0 q c);
     parallel_below = λ q c. in_none q c;
-    home = 1;
-    home_from = omega arith;
-    home_upto = omega arith;
-    home_own = p;
-    home_level = d;
-    home_above = λ k x y. omega arith;
-    opened = λ more. absurd (omega arith);
+    home = record { place = 1; from_one = omega arith; upto = omega arith; is_own = p; level = d; above = λ k x y. omega arith; opened = λ more. absurd (omega arith) };
   }) none;
   stand = λ i x y. ap (λ (j : ℕ). somewhere (opened false 0 ∷ []) (proc j)) (sym (only i x y))
       ∙ ap (λ (j : ℕ). somewhere (opened false 0 ∷ []) j) p

@@ -5,7 +5,6 @@ pub mod Puts
 pub mod Counts
 pub mod Named
 pub mod Raced
-pub mod Entries
 pub mod Kept
 pub mod Renames
 pub mod Forgets

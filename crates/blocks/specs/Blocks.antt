@@ -1,12 +1,12 @@
 -- Promised: shadow memory by blocks: what is kept of each location, and how far the run has come.
-use Rattle.std.specs.Prelude.{ℕ, ◌+◌, ◌*◌, ◌/◌, ◌%◌, ◌<◌, ◌==◌, ◌&&◌, Bool, List, if◌then◌else◌}
+use Rattle.std.specs.Prelude.{ℕ, ◌+◌, ◌*◌, ◌/◌, ◌%◌, ◌==◌, ◌&&◌, Bool, List, if◌then◌else◌}
 use Rattle.dag.specs.declared.records.Kind.{Kind}
 use Rattle.dag.specs.Accesses.{RaceAt}
 use Rattle.bags.specs.Procedures.{Active}
 use Rattle.shadow.specs.Cells.{Cell}
-use Rattle.shadow.specs.Before.{IsCellBefore}
+use Rattle.shadow.specs.Pages.{cell_in}
 use Rattle.blocks.specs.Masks.{has}
-use Rattle.blocks.specs.Pages.{Block, cell_of_unit, location_of, touched_at, races_up_to}
+use Rattle.blocks.specs.Pages.{Block, block_cell, location_of, touched_at, races_up_to}
 
 -- the pages of the locations that were touched, the place from which the next access may come, and the count of the
 -- bags at the last one
@@ -31,17 +31,17 @@ abbrev pub first_of : ℕ → ℕ
 first_of page = page / 2 * 128 + page % 2
 
 -- what is kept of a location
+abbrev pub cell_in_blocks : List (ℕ × Block) → ℕ → Cell
+cell_in_blocks pages l = cell_in block_cell pages (block_of l) (l / 2)
+
 abbrev pub kept_in_blocks : Blocks → ℕ → Cell
-kept_in_blocks m l = cell_of_unit m.pages (block_of l) (unit_of l)
+kept_in_blocks m l = cell_in_blocks m.pages l
 
 abbrev pub next_place_of : Blocks → ℕ
 next_place_of m = m.next_place
 
 abbrev pub count_of_blocks : Blocks → ℕ
 count_of_blocks m = m.least_count
-
-abbrev pub IsBlocksBefore : Blocks → Type 0
-IsBlocksBefore m = (q k : ℕ) → k < 64 → IsCellBefore m.next_place m.least_count (cell_of_unit m.pages q k)
 
 -- what is kept of a location after an access to these units of a block, the first of them at this place
 abbrev pub kept_after_units : List Active → Kind → ℕ → ℕ → ℕ → (ℕ → Cell) → ℕ → Cell

@@ -1,7 +1,6 @@
 -- Promised: what a page keeps of its 64 units, and what an access to some of them does.
-use Rattle.std.specs.Prelude.{◌≡◌, ℕ, zero, suc, ◌+◌, ◌*◌, ◌<◌, not, ◌&&◌, List, [], ◌++◌, Option, Some, None}
-use Rattle.std.specs.Prelude.{if◌then◌else◌, ◌==◌, nat_eq, slice_get, unwrap_or}
-use Rattle.std.specs.Map.{lookup}
+use Rattle.std.specs.Prelude.{◌≡◌, ℕ, zero, suc, ◌+◌, ◌*◌, ◌%◌, ◌<◌, not, ◌&&◌, List, [], ◌++◌, Option, Some, None}
+use Rattle.std.specs.Prelude.{if◌then◌else◌}
 use Rattle.std.specs.Option.{option_to_list}
 use Rattle.dag.specs.declared.records.Kind.{Kind}
 use Rattle.dag.specs.Accesses.{RaceAt}
@@ -21,14 +20,15 @@ pub record Block : Type 0 where
 abbrev pub unit_cell : Block → ℕ → Cell
 unit_cell p unit = named_cell (names_of p.groups unit) unit (has p.reported unit)
 
+-- what a page keeps of a unit, or what is kept if there is no page
+abbrev pub block_cell : Option Block → ℕ → Cell
+block_cell None i = untouched
+block_cell (Some p) i = unit_cell p (i % 64)
+
 -- what is kept of a unit after an access to these units, the first of them at this place
 abbrev pub touched_at : List Active → Kind → ℕ → ℕ → ℕ → Cell → Cell
 touched_at fs kind place units unit c =
     if has units unit then touched fs kind (place + units_before units unit) c else c
-
--- what is kept of a unit after these units were forgotten
-abbrev pub forgotten_at : ℕ → ℕ → Cell → Cell
-forgotten_at units unit c = if has units unit then untouched else c
 
 -- the location of a unit, by that of unit 0
 abbrev pub location_of : ℕ → ℕ → ℕ
@@ -50,33 +50,3 @@ races_up_to fs first kind place units cells (suc unit) =
 abbrev pub AreNew : List Active → Kind → ℕ → Block → ℕ → Type 0
 AreNew fs kind units b racy = (i : ℕ) → i < 64
     → has racy i ≡ (has units i && (is_racy fs kind (names_at b.groups i) && not (has b.reported i)))
-
--- before the first access
-abbrev pub no_block : Block
-no_block = record { groups = []; reported = 0 }
-
--- the page of this number; if it isn't there, an untouched one
-abbrev pub block_numbered : List (ℕ × Block) → ℕ → Block
-block_numbered pages page = unwrap_or (lookup (nat_eq page) pages) no_block
-
--- what is kept of a unit of the page of this number
-abbrev pub cell_of_unit : List (ℕ × Block) → ℕ → ℕ → Cell
-cell_of_unit pages page unit = unit_cell (block_numbered pages page) unit
-
--- the page of this number stands at this index of the list
-abbrev pub IsBlockAt : List (ℕ × Block) → ℕ → ℕ → Type 0
-IsBlockAt pages index page = slice_get pages index ≡ Some (page, block_numbered pages page)
-
--- the index of the page of this number, or that there is none
-abbrev pub IsFoundBlock : List (ℕ × Block) → ℕ → Option ℕ → Type 0
-IsFoundBlock pages page (Some index) = IsBlockAt pages index page
-IsFoundBlock pages page None = lookup (nat_eq page) pages ≡ None
-
--- all is kept as it was
-abbrev pub HasSameUnits : List (ℕ × Block) → List (ℕ × Block) → Type 0
-HasSameUnits old new = (q k : ℕ) → cell_of_unit new q k ≡ cell_of_unit old q k
-
--- all is kept as it was but for the units of one page, of which this is kept
-abbrev pub HasPutUnits : ℕ → (ℕ → Cell) → List (ℕ × Block) → List (ℕ × Block) → Type 0
-HasPutUnits page cells old new = (q k : ℕ) → k < 64
-    → cell_of_unit new q k ≡ (if q == page then cells k else cell_of_unit old q k)

@@ -5,9 +5,11 @@ ghost use Rattle.shadow.specs.Cells.{untouched};
 ghost use Rattle.std.specs.Int.RustNames.{count_ones};
 ghost use Rattle.blocks.specs.Blocks.{block_of, is_unit, kept_after_units, races_in_block};
 
-use crate::pages::Pages;
+use crate::page::Page;
+use crate::recent::Recent;
 use bags::Bags;
 use dag::{Kind, NoMemory, Race};
+use shadow::Pages;
 use std::alloc::Global;
 use std::hash::BuildHasher;
 use std::marker::Model;
@@ -15,23 +17,20 @@ use std::marker::Model;
 /// The shadow memory of a serial run whose accesses come a block at a time: 64 locations that are two apart.
 #[derive(Drop)]
 pub struct BlockShadow<S: BuildHasher> {
-    pages: Pages<S>,
+    pages: Pages<Page, Recent, S>,
     next_place: u64,
     least_count: u64,
 }
 
 impl<S: BuildHasher> Model for BlockShadow<S> {
-    ghost use Rattle.blocks.specs.Blocks.{Blocks, IsBlocksBefore};
+    ghost use Rattle.shadow.specs.Before.{AreBefore};
+    ghost use Rattle.blocks.specs.Blocks.{Blocks, cell_in_blocks};
 
     ghost Value = { Blocks };
 
     ghost view = { λ s. record { pages = s.pages; next_place = s.next_place; least_count = s.least_count } };
 
-    ghost invariant = { λ s. IsBlocksBefore (record {
-      pages = s.pages;
-      next_place = s.next_place;
-      least_count = s.least_count;
-    }) };
+    ghost invariant = { λ s. AreBefore s.next_place s.least_count (cell_in_blocks s.pages) };
 }
 
 impl<S: BuildHasher> BlockShadow<S> {
@@ -44,7 +43,7 @@ impl<S: BuildHasher> BlockShadow<S> {
         ensures least_count { count_of_blocks result ≡ 1 }
     {
         BlockShadow {
-            pages: Pages::with_hasher(alloc, hasher),
+            pages: Pages::new(alloc, Recent::new(), hasher),
             next_place: 1,
             least_count: 1,
         }
@@ -75,14 +74,13 @@ impl<S: BuildHasher> BlockShadow<S> {
         ensures next_place { next_place_of self.new ≤ place + count_ones units }
         ensures least_count { count_of_blocks self.new ≤ bags.now.count }
     {
-        let page = location / 128 * 2 + location % 2;
+        let number = location / 128 * 2 + location % 2;
         let first = location / 128 * 128 + location % 2;
-        let at = self.pages.find(page)?;
+        let at = self.pages.find(number, ())?;
         self.next_place = place + u64::from(units.count_ones());
         self.least_count = bags.count();
-        self.pages
-            .touch(at, page, bags, first, kind, place, units, races)?;
-        Ok(())
+        let page = self.pages.page_mut(at, number);
+        page.touch(bags, first, kind, place, units, races)
     }
 
     /// These units of the location's block are as they were before their first access.
@@ -93,6 +91,7 @@ impl<S: BuildHasher> BlockShadow<S> {
         ensures next_place { next_place_of self.new ≡ next_place_of self.old }
         ensures least_count { count_of_blocks self.new ≡ count_of_blocks self.old }
     {
-        self.pages.forget(location / 128 * 2 + location % 2, units);
+        let page = location / 128 * 2 + location % 2;
+        self.pages.forget(page, (), units);
     }
 }

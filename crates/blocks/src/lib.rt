@@ -5,7 +5,6 @@ mod block_shadow;
 mod groups;
 mod masks;
 mod page;
-mod pages;
 mod recent;
 mod step;
 

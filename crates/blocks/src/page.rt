@@ -1,16 +1,17 @@
 //! What is kept of the 64 units of a block.
-ghost use Rattle.std.specs.Prelude.{◌≡◌, ℕ, ◌+◌, ◌^◌, ◌<◌, ◌≤◌, ◌++◌, OnOk, IsTrue};
+ghost use Rattle.std.specs.Prelude.{◌≡◌, ℕ, ◌+◌, ◌^◌, ◌%◌, ◌<◌, ◌≤◌, ◌++◌, refl, OnOk};
 ghost use Rattle.std.specs.Int.RustNames.{count_ones};
 ghost use Rattle.dag.specs.Bounds.{most_records};
-ghost use Rattle.shadow.specs.Cells.{untouched};
 ghost use Rattle.shadow.specs.Before.{IsCellBefore};
-ghost use Rattle.blocks.specs.Pages.{unit_cell, touched_at, races_up_to, AreNew, forgotten_at};
+ghost use Rattle.blocks.specs.Masks.{has};
+ghost use Rattle.blocks.specs.Pages.{block_cell, unit_cell, touched_at, races_up_to, AreNew};
 
 use crate::groups::{Group, forget, names_of, racy_units, touch};
 use crate::masks::{count_before, without};
 use crate::step::Step;
 use bags::Bags;
 use dag::{Access, Kind, NoMemory, Race};
+use shadow::CellPage;
 use std::alloc::Global;
 use std::marker::Model;
 
@@ -36,17 +37,6 @@ impl Model for Page {
 }
 
 impl Page {
-    /// A page before the first access. It takes no memory.
-    pub fn untouched(alloc: Global) -> Page
-        ensures { (i : ℕ) → unit_cell result i ≡ untouched }
-    {
-        Page {
-            groups: Vec::new(alloc),
-            touched: 0,
-            reported: 0,
-        }
-    }
-
     /// Takes an access to these units by the executing procedure, the first of them at this place, and puts the races
     /// that it reports behind the others. The location of unit 0 is `first`.
     pub fn touch(
@@ -91,22 +81,6 @@ impl Page {
         Ok(())
     }
 
-    /// These units are as they were before their first access.
-    pub fn forget(&mut self, units: u64)
-        ensures { (i : ℕ) → i < 64 → unit_cell self.new i ≡ forgotten_at units i (unit_cell self.old i) }
-    {
-        forget(&mut self.groups, units);
-        self.touched = without(self.touched, units);
-        self.reported = without(self.reported, units);
-    }
-
-    /// Whether all units are as they were before their first access.
-    pub fn is_untouched(&self) -> bool
-        ensures { IsTrue result → (i : ℕ) → i < 64 → unit_cell self.now i ≡ untouched }
-    {
-        self.touched == 0 && self.reported == 0
-    }
-
     /// Puts the races at these units, of all that the access touches, behind the others.
     #[cold]
     #[inline(never)]
@@ -143,5 +117,33 @@ impl Page {
             }
         }
         Ok(())
+    }
+}
+
+impl CellPage for Page {
+    type Seats = u64;
+
+    ghost cell = { block_cell };
+
+    ghost has = { λ units i. has units (i % 64) };
+
+    ghost none = { λ i. refl };
+
+    fn untouched(alloc: Global) -> Page {
+        Page {
+            groups: Vec::new(alloc),
+            touched: 0,
+            reported: 0,
+        }
+    }
+
+    fn forget(&mut self, units: u64) {
+        forget(&mut self.groups, units);
+        self.touched = without(self.touched, units);
+        self.reported = without(self.reported, units);
+    }
+
+    fn is_untouched(&self) -> bool {
+        self.touched == 0 && self.reported == 0
     }
 }

@@ -1,8 +1,13 @@
 //! Where pages were found lately.
 ghost use Rattle.std.specs.Prelude.{◌<◌};
 
+use shadow::Guesses;
+
 /// The number of slots.
 const SLOTS: usize = 1024;
+
+/// Not the index of a page.
+const NOWHERE: usize = usize::MAX;
 
 /// A page, and its index when it was found.
 #[derive(Clone, Copy)]
@@ -11,9 +16,11 @@ struct Found {
     index: usize,
 }
 
-/// The indices at which pages were found lately, each in the slot of its page. None of them is trusted.
+/// The index at which the last page was found, and those at which pages were found lately, each in the slot of its
+/// page.
 #[derive(Drop)]
 pub struct Recent {
+    last: usize,
     found: [Found; SLOTS],
 }
 
@@ -21,29 +28,45 @@ impl Recent {
     /// Nothing was found.
     pub fn new() -> Recent {
         Recent {
+            last: 0,
             found: [Found { page: 0, index: 0 }; SLOTS],
         }
     }
 
-    /// Where a page may stand: where it was found, or behind its neighbour. A program that goes through arrays adds
-    /// their pages one behind the other.
+    // Where the page was found, or behind its neighbour. A program that goes through arrays adds their pages one behind
+    // the other.
     #[inline(always)]
-    pub fn guess(&self, page: u64) -> Option<usize> {
+    fn lately(&self, page: u64) -> usize {
         let found = self.found[slot_of(page)];
         if found.page == page {
-            return Some(found.index);
+            return found.index;
         }
         let neighbour = page.wrapping_sub(2);
         let before = self.found[slot_of(neighbour)];
         if before.page == neighbour {
-            return Some(before.index.wrapping_add(1));
+            return before.index.wrapping_add(1);
         }
-        None
+        NOWHERE
+    }
+}
+
+impl Guesses for Recent {
+    type Hint = ();
+
+    #[inline(always)]
+    fn likeliest(&self, _hint: ()) -> usize {
+        self.last
     }
 
-    /// The page was found at this index.
     #[inline(always)]
-    pub fn note(&mut self, page: u64, index: usize) {
+    fn others(&self, page: u64, _hint: ()) -> [usize; 4] {
+        let next = self.last.wrapping_add(1);
+        [next, self.lately(page), NOWHERE, NOWHERE]
+    }
+
+    #[inline(always)]
+    fn note(&mut self, page: u64, _hint: (), index: usize) {
+        self.last = index;
         self.found[slot_of(page)] = Found { page, index };
     }
 }

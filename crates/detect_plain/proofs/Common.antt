@@ -16,4 +16,6 @@ pub use Rattle.shadow.proofs.StateLemmas.{map_OnOk}
 pub use Rattle.shadow.specs.Cells.{race_with, Cell}
 pub use Rattle.shadow.specs.Found.{state_at_start, found, by_location, State, after_record, race_of, found_from, verdict, put_in}
 pub use Rattle.verdict.proofs.Reports.{placed-next, report_of}
-pub use Rattle.detect_plain.specs.Detected.{HasFollowed, DetectorState, HasSeenTrace, HasDetected, HasSeenPart}
+pub use Rattle.shadow.specs.SpBags.{SpBags, HasApplied, state_of}
+pub use Rattle.detect_plain.specs.Detected.{HasFollowed, TakesRecord, HasSeenTrace, HasDetected, HasSeenPart}
+pub use Rattle.detect_plain.specs.declared.detector.PlainDetector.{PlainDetector}

@@ -1,5 +1,5 @@
 -- The report of a part, from the races found in its records by their numbers.
-use Rattle.detect_plain.proofs.Common.{◌≡◌, ℕ, filter, List, [], ◌∷◌, map, sym, ap, subst, ◌∙◌, AllByRecursion, Record, Version, Part, RaceAt, placed, IsWellNested, AllFit, records_of, races_of_part, state_at_start, found, by_location, verdict, found_from-apart, found-part}
+use Rattle.detect_plain.proofs.Common.{◌≡◌, ℕ, List, [], ◌∷◌, map, sym, ap, subst, ◌∙◌, AllByRecursion, Record, Version, Part, RaceAt, placed, IsWellNested, AllFit, records_of, races_of_part, state_at_start, found, by_location, verdict, found_from-apart, found-part}
 use Rattle.shadow.proofs.Listed.{All-by_location}
 use Rattle.shadow.proofs.PartListed.{located-by_location, filter-by_location}
 use Rattle.collect.specs.Located.{located_at, HaveLocations}

@@ -3,7 +3,7 @@ ghost use Rattle.trace.specs.Devices.{◌⇝◌};
 ghost use Rattle.trace.specs.Endings.{EndsReading, IsWantOfMemory};
 ghost use Rattle.verdict.specs.Reported.{IsReportOf, IsPartReportOf};
 
-use crate::detector::{Detector, PartDetector};
+use crate::detector::{PartDetector, PlainDetector};
 use collect::Report;
 use std::alloc::Global;
 use std::hash::BuildHasher;
@@ -27,7 +27,7 @@ pub fn detect_plain<R: Source, S: BuildHasher + Drop>(
     ensures { EndsReading IsWantOfMemory limits.records limits.depth (R.state source.old ⇝ R.state source.new)
         (λ report w. IsReportOf w report) result }
 {
-    let mut detector = Detector::new(alloc, hasher)?;
+    let mut detector = PlainDetector::new(alloc, hasher)?;
     read_to_end(limits, source, &mut detector)?;
     Ok(detector.finish()?)
 }
@@ -45,7 +45,7 @@ pub fn detect_plain_part<R: Source, S: BuildHasher + Drop>(
     ensures { EndsReading IsWantOfMemory limits.records limits.depth (R.state source.old ⇝ R.state source.new)
         (λ report w. IsPartReportOf part w report) result }
 {
-    let detector = Detector::new(alloc, hasher)?;
+    let detector = PlainDetector::new(alloc, hasher)?;
     let mut watch = PartDetector { part, detector };
     read_to_end(limits, source, &mut watch)?;
     let numbered = watch.detector.finish()?;

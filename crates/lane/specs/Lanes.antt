@@ -1,11 +1,11 @@
 -- Promised: what contracts see of the ends of a lane: which lane they are of, what was put, and what was taken.
-use Rattle.std.specs.Prelude.{◌≡◌, ℕ, ◌+◌, ◌-◌, ◌%◌, ◌^◌, Bool, false, if◌then◌else◌, List, ◌++◌, length}
+use Rattle.std.specs.Prelude.{◌≡◌, ℕ, ◌+◌, ◌-◌, ◌%◌, ◌^◌, ◌≤◌, false, true, List, [], ◌++◌, length}
 use Rattle.std.specs.declared.alloc.Global.{Global}
 use Rattle.rtrb.specs.Shared.{Names}
 use Rattle.rtrb.specs.declared.end.End.{End}
 use denote.RawPtr.{Ptr}
 use Rattle.lane.specs.declared.item.Item.{Item}
-use Rattle.lane.specs.Items.{has_mark}
+use Rattle.lane.specs.Items.{has_mark, mark_last}
 
 -- a ring, as a value that distinguishes it from each other ring: its place, and its names
 abbrev pub RingId : Type 0
@@ -78,18 +78,52 @@ module _ {T : Type 0} where
   abbrev pub IsFull : SenderState T → Type 0
   IsFull s = length (put_of s) ≡ s.capacity + known_taken s
 
-  -- nothing was put, and the lane was full and is, as far as the sender knows
-  abbrev pub WasFull : SenderState T → SenderState T → Type 0
-  WasFull old new = (put_of new ≡ put_of old) × (IsFull old × IsFull new)
-
-  -- one refusal more is counted, unless the call succeeded
-  abbrev pub CountsRefusal : Bool → SenderState T → SenderState T → Type 0
-  CountsRefusal succeeded old new = new.refusals ≡ (if succeeded then old.refusals else one_more old.refusals)
-
   -- the same lane, which holds as many items at most
   abbrev pub SameSender : SenderState T → SenderState T → Type 0
   SameSender old new = (new.lane ≡ old.lane) × (new.capacity ≡ old.capacity)
 
+  -- nothing was put, and the taker is shown all that was
+  pub record HasShown (old new : SenderState T) : Type 0 where
+    pub lane : SameSender old new
+    pub put : put_of new ≡ put_of old
+    pub shown : new.shown ≡ put_of old
+    pub none_staged : new.staged ≡ []
+    pub room : old.room ≤ new.room
+    pub refusals : new.refusals ≡ old.refusals
+
+  -- these items were put behind those that were put before
+  pub record HasAdded (items : List (Item T)) (old new : SenderState T) : Type 0 where
+    pub lane : SameSender old new
+    pub put : put_of new ≡ put_of old ++ items
+    pub room : old.room ≤ new.room + length items
+    pub refusals : new.refusals ≡ old.refusals
+
+  -- nothing was put, the taker is shown all that was, and one refusal more is counted
+  pub record HasRefused (old new : SenderState T) : Type 0 where
+    pub lane : SameSender old new
+    pub put : put_of new ≡ put_of old
+    pub none_staged : new.staged ≡ []
+    pub room : old.room ≤ new.room
+    pub refusals : new.refusals ≡ one_more old.refusals
+
+  -- so it refused, and the lane was full and is, as far as the sender knows: it knew of no room, and knows of none
+  pub record WasFull (old new : SenderState T) : Type 0 where
+    pub refused : HasRefused old new
+    pub was : IsFull old
+    pub still : IsFull new
+    pub knew_of_none : old.room ≡ 0
+    pub knows_of_none : new.room ≡ 0
+
   -- the same of the end that takes
   abbrev pub SameTaker : TakerState T → TakerState T → Type 0
   SameTaker old new = (new.lane ≡ old.lane) × (new.capacity ≡ old.capacity)
+
+  -- The ends were compared, and nothing was put or taken: what was taken and what waits is what was put, and what the
+  -- sender knew to be taken was.
+  pub record AreCompared (old new : TakerState T) (was now : SenderState T) : Type 0 where
+    pub lane : SameTaker old new × SameSender was now
+    pub taken : new.taken ≡ old.taken
+    pub put : put_of now ≡ put_of was
+    pub waiting : new.taken ++ new.waiting ≡ put_of now
+    pub knew : known_taken was ≤ length new.taken
+    pub last : mark_last (put_of now) ≡ true

@@ -6,6 +6,7 @@ ghost use Rattle.lane.specs.declared.giving.TheConstants.{LIST};
 ghost use Rattle.lane.specs.Items.{has_mark};
 ghost use Rattle.lane.specs.declared.item.Item.TheVariants.{Finish};
 ghost use Rattle.lane.specs.Slots.{all_items, have_items};
+ghost use Rattle.lane.specs.Joining.{MayJoin, HasJoined};
 
 use crate::item::{Item, MarkLast, Slot};
 use rtrb::{Consumer, Producer};
@@ -35,7 +36,7 @@ const FEW: usize = 8;
 const UNITS: [(); LIST] = [(); LIST];
 
 impl<T: Copy + Send> Giving<T> {
-    ghost use Rattle.lane.specs.Given.{items_sent, room_in, SameGiving, HasLooked};
+    ghost use Rattle.lane.specs.Given.{items_sent, room_in, SameGiving, HasLooked, MayShow, HasShownList};
 
     /// For how many items more there is known to be room.
     #[inline(always)]
@@ -67,15 +68,8 @@ impl<T: Copy + Send> Giving<T> {
     /// Shows the taker these items, for which there is room, and leaves an empty list that isn't smaller.
     #[tactic(auto, using(crate::proofs::Shown::of_items))]
     pub(crate) fn show(&mut self, staged: &mut Vec<Item<T>>)
-        requires some { 1 ≤ vec_len staged.old }
-        requires most { vec_len staged.old ≤ LIST }
-        requires room { vec_len staged.old ≤ room_in self.old }
-        requires unmarked { has_mark (items_sent self.old ++ staged.old.items) ≡ false }
-        ensures same { SameGiving self.old self.new }
-        ensures shown { items_sent self.new ≡ items_sent self.old ++ staged.old.items }
-        ensures room { room_in self.old ≤ room_in self.new + vec_len staged.old }
-        ensures none { staged.new.items ≡ [] }
-        ensures memory { vec_capacity staged.old ≤ vec_capacity staged.new }
+        requires { MayShow self.old staged.old }
+        ensures { HasShownList self.old self.new staged.old staged.new }
     {
         let Ok(()) = self.units.push_entire_slice(&UNITS[..staged.len()]) else {
             unreachable!()
@@ -109,13 +103,8 @@ impl<T: Copy + Send> Giving<T> {
 #[tactic(auto, using(crate::proofs::Shown::of_a_list))]
 fn show_list<T: Copy + Send>(ring: &mut Producer<Slot<T>, Global, MarkLast>, list: Vec<Item<T>>)
     requires item { 1 ≤ vec_len list }
-    requires room { vec_len list ≤ known_free ring.old }
-    requires unmarked { has_mark (all_items (sent ring.old) ++ list.items) ≡ false }
-    requires some { have_items (sent ring.old) ≡ true }
-    ensures same { SameProducer ring.old ring.new }
-    ensures shown { all_items (sent ring.new) ≡ all_items (sent ring.old) ++ list.items }
-    ensures some { have_items (sent ring.new) ≡ true }
-    ensures room { known_free ring.old ≤ known_free ring.new + vec_len list }
+    requires may { MayJoin ring.old list.items }
+    ensures { HasJoined list.items ring.old ring.new }
 {
     ring.push_reserved(Slot::Several(list));
 }
@@ -125,12 +114,8 @@ fn show_each<T: Copy + Send>(
     ring: &mut Producer<Slot<T>, Global, MarkLast>,
     staged: &mut Vec<Item<T>>,
 )
-    requires room { vec_len staged.old ≤ known_free ring.old }
-    requires unmarked { has_mark (all_items (sent ring.old) ++ staged.old.items) ≡ false }
-    requires some { have_items (sent ring.old) ≡ true }
-    ensures same { SameProducer ring.old ring.new }
-    ensures shown { all_items (sent ring.new) ≡ all_items (sent ring.old) ++ staged.old.items }
-    ensures some { have_items (sent ring.new) ≡ true }
+    requires { MayJoin ring.old staged.old.items }
+    ensures joined { HasJoined staged.old.items ring.old ring.new }
     ensures room { known_free ring.old ≡ known_free ring.new + vec_len staged.old }
     ensures none { staged.new.items ≡ [] }
     ensures memory { vec_capacity staged.new ≡ vec_capacity staged.old }

@@ -5,7 +5,7 @@ ghost use Rattle.rtrb.specs.Ring.{producer_capacity};
 ghost use Rattle.lane.specs.declared.sender.TheConstants.{BLOCK};
 ghost use Rattle.lane.specs.declared.item.Item.TheVariants.{One, Finish};
 ghost use Rattle.lane.specs.Items.{has_mark, mark_last};
-ghost use Rattle.lane.specs.Given.{items_sent, room_in, SameGiving};
+ghost use Rattle.lane.specs.Given.{items_sent, IsLimit, IsAtLimit, HasStagedOn, WasStuck};
 ghost use Rattle.lane.specs.declared.giving.TheConstants.{LIST};
 ghost use Rattle.lane.specs.Staging.{most_staged};
 
@@ -32,9 +32,7 @@ pub struct Sender<T> {
     pub(crate) refusals: u64,
     ghost memory: { most ≤ vec_capacity staged },
     ghost most_is: { most ≡ most_staged (producer_capacity giving.units) },
-    ghost limit_within: { (limit ≤ most) × (limit ≤ room_in giving) },
-    ghost staged_within: { vec_len staged ≤ limit },
-    ghost below: { 1 ≤ limit → vec_len staged < limit },
+    ghost limited: { IsLimit limit most giving staged },
     ghost known: { has_mark (items_sent giving ++ staged.items) ≡ marked },
     ghost last: { mark_last (items_sent giving ++ staged.items) ≡ true },
     ghost none_behind: { IsTrue marked → vec_len staged ≡ 0 },
@@ -74,7 +72,7 @@ impl<T> Model for End<T> {
 }
 
 impl<T: Copy + Send> Sender<T> {
-    ghost use Rattle.lane.specs.Lanes.{put_of, IsUnmarked, WasFull, CountsRefusal, SameSender};
+    ghost use Rattle.lane.specs.Lanes.{put_of, IsUnmarked, HasShown, HasAdded, HasRefused, WasFull};
 
     /// Puts the value behind those put before, or hands it back if the lane is full, when the taker is shown all items
     /// put. It shows values to the taker together: at the latest when `most_staged` of them are staged, or in `flush`.
@@ -82,14 +80,9 @@ impl<T: Copy + Send> Sender<T> {
     #[tactic(auto, using(crate::proofs::Marks::of_an_item, crate::proofs::Shown::of_a_refusal))]
     pub fn put(&mut self, value: T) -> Result<(), T>
         requires { IsUnmarked self.old }
-        ensures lane { SameSender self.old self.new }
-        ensures ok { OnOk result (put_of self.new ≡ put_of self.old ++ One value ∷ []) }
+        ensures ok { OnOk result (HasAdded (One value ∷ []) self.old self.new) }
         ensures full { IfErr result (λ x. (x ≡ value) × WasFull self.old self.new) }
-        ensures no_room { IfErr result (λ _. (self.old.room ≡ 0) × (self.new.room ≡ 0)) }
-        ensures room { self.old.room ≤ self.new.room + 1 }
         ensures staged { length self.new.staged < most_staged self.new.capacity }
-        ensures shown { IfErr result (λ _. self.new.staged ≡ []) }
-        ensures refusals { CountsRefusal (is_ok result) self.old self.new }
         ensures unmarked { IsUnmarked self.new }
     {
         self.staged.push_reserved(Item::One(value));
@@ -110,12 +103,7 @@ impl<T: Copy + Send> Sender<T> {
 
     /// Shows the taker all items put.
     pub fn flush(&mut self)
-        ensures lane { SameSender self.old self.new }
-        ensures put { put_of self.new ≡ put_of self.old }
-        ensures shown { self.new.shown ≡ put_of self.old }
-        ensures none_staged { self.new.staged ≡ [] }
-        ensures room { self.old.room ≤ self.new.room }
-        ensures refusals { self.new.refusals ≡ self.old.refusals }
+        ensures { HasShown self.old self.new }
     {
         if !self.staged.is_empty() {
             self.giving.show(&mut self.staged);
@@ -129,15 +117,11 @@ impl<T: Copy + Send> Sender<T> {
     pub fn put_block(&mut self, values: &[T]) -> bool
         requires unmarked { IsUnmarked self.old }
         requires most { length values.now ≤ BLOCK }
-        ensures lane { SameSender self.old self.new }
-        ensures put { IsTrue result → put_of self.new ≡ put_of self.old ++ map One values.now }
-        ensures full { IsFalse result → (put_of self.new ≡ put_of self.old) × (self.new.room < length values.now) }
+        ensures put { IsTrue result → HasAdded (map One values.now) self.old self.new }
+        ensures full { IsFalse result → HasRefused self.old self.new × (self.new.room < length values.now) }
         ensures succeeds { length values.now ≤ self.old.room → IsTrue result }
         ensures unmarked { IsUnmarked self.new }
         ensures shown { self.new.staged ≡ [] }
-        ensures room { self.old.room ≤ self.new.room + length values.now }
-        ensures kept { IsFalse result → self.old.room ≤ self.new.room }
-        ensures refusals { CountsRefusal result self.old self.new }
     {
         self.flush();
         if !self.giving.has_room_for(values.len()) {
@@ -157,14 +141,10 @@ impl<T: Copy + Send> Sender<T> {
     #[tactic(auto, using(crate::proofs::Marks::of_an_item, crate::proofs::Shown::of_a_refusal))]
     pub fn mark(&mut self) -> bool
         requires { IsUnmarked self.old }
-        ensures lane { SameSender self.old self.new }
-        ensures put { IsTrue result → put_of self.new ≡ put_of self.old ++ Finish ∷ [] }
+        ensures put { IsTrue result → HasAdded (Finish ∷ []) self.old self.new }
         ensures full { IsFalse result → WasFull self.old self.new }
-        ensures no_room { IsFalse result → (self.old.room ≡ 0) × (self.new.room ≡ 0) }
-        ensures room { self.old.room ≤ self.new.room + 1 }
         ensures marked { has_mark (put_of self.new) ≡ result }
         ensures shown { self.new.staged ≡ [] }
-        ensures refusals { CountsRefusal result self.old self.new }
     {
         self.flush();
         if self.giving.is_full() {
@@ -201,10 +181,7 @@ impl<T: Copy + Send> Sender<T> {
 
     /// The receipt, which holds the sender. It shows the taker all items put.
     pub fn end(mut self) -> End<T>
-        ensures lane { SameSender self result }
-        ensures put { put_of result ≡ put_of self }
-        ensures room { self.room ≤ result.room }
-        ensures shown { result.shown ≡ put_of result }
+        ensures { HasShown self result }
     {
         self.flush();
         End { sender: self }
@@ -229,25 +206,9 @@ fn show<T: Copy + Send>(
     limit: usize,
     most: usize,
 ) -> Option<usize>
-    requires some { 1 ≤ vec_len staged.old }
-    requires enough { 1 ≤ limit → vec_len staged.old ≤ room_in giving.old }
-    requires one { limit ≡ 0 → vec_len staged.old ≡ 1 }
-    requires unmarked { has_mark (items_sent giving.old ++ staged.old.items) ≡ false }
-    requires most { (1 ≤ most) × (most ≤ LIST) }
-    requires within { vec_len staged.old ≤ most }
-    ensures same { SameGiving giving.old giving.new }
-    ensures memory { vec_capacity staged.old ≤ vec_capacity staged.new }
-    ensures put { IfSome result
-        (λ _. items_sent giving.new ++ staged.new.items ≡ items_sent giving.old ++ staged.old.items) }
-    ensures shown { 1 ≤ limit → staged.new.items ≡ [] }
-    ensures room { IfSome result
-        (λ _. room_in giving.old + vec_len staged.new ≤ room_in giving.new + vec_len staged.old) }
-    ensures within { IfSome result (λ limit. (limit ≤ most) × (limit ≤ room_in giving.new)) }
-    ensures below { IfSome result (λ limit. (vec_len staged.new ≤ limit) × (1 ≤ limit → vec_len staged.new < limit)) }
-    ensures less { IfSome result (λ _. vec_len staged.new < most) }
-    ensures full { IfNone result ((limit ≡ 0) × (room_in giving.new ≡ 0) × (room_in giving.old ≡ 0)) }
-    ensures filled { IfNone result (producer_capacity giving.new.units ≤ length (items_sent giving.new)) }
-    ensures none_staged { IfNone result ((items_sent giving.new ≡ items_sent giving.old) × (staged.new.items ≡ [])) }
+    requires { IsAtLimit limit most giving.old staged.old }
+    ensures some { IfSome result (λ next. HasStagedOn limit most next giving.old giving.new staged.old staged.new) }
+    ensures none { IfNone result (WasStuck limit giving.old giving.new staged.old staged.new) }
 {
     if limit == 0 {
         if giving.is_full() {

@@ -3,7 +3,7 @@ ghost use Rattle.std.specs.Prelude.{◌≡◌, ◌+◌, ◌-◌, ◌%◌, ◌^�
 ghost use Rattle.std.specs.Prelude.{length, take, drop, vec_len, vec_capacity, IfSome, IfNone, IsSome, IsTrue, IsFalse};
 ghost use Rattle.rtrb.specs.Ring.{sent, producer_capacity, received, known_items, consumer_capacity, IsPair};
 ghost use Rattle.rtrb.specs.Ring.{SameConsumer};
-ghost use Rattle.lane.specs.Given.{items_sent, room_in, HasLooked};
+ghost use Rattle.lane.specs.Hands.{MayLook, HaveLooked};
 ghost use Rattle.lane.specs.Items.{has_mark, mark_last, IsBeginning};
 ghost use Rattle.lane.specs.Slots.{items_in, all_items, HasItem, taken_before, HoldsRest};
 
@@ -63,7 +63,8 @@ impl<T> Model for Taker<T> {
 }
 
 impl<T: Copy + Send> Taker<T> {
-    ghost use Rattle.lane.specs.Lanes.{put_of, known_taken, SameSender, SameTaker};
+    ghost use Rattle.lane.specs.Lanes.{put_of, known_taken, SameTaker, AreCompared};
+    ghost use Rattle.lane.specs.Hands.{HasInHand};
 
     /// The next item, or `None` if the lane is empty; after the mark always `None`.
     pub fn take(&mut self) -> Option<Item<T>>
@@ -72,6 +73,7 @@ impl<T: Copy + Send> Taker<T> {
             × (has_mark self.old.taken ≡ false)) }
         ensures none { IfNone result (self.new.taken ≡ self.old.taken) }
         ensures succeeds { 0 < length self.old.waiting → has_mark self.old.taken ≡ false → IsSome result }
+        ensures near { 0 < length self.old.near → has_mark self.old.taken ≡ false → IsSome result }
         ensures ended { has_mark self.old.taken ≡ true → result ≡ None }
     {
         if self.has_ended() {
@@ -108,6 +110,7 @@ impl<T: Copy + Send> Taker<T> {
         ensures within { result ≤ length items.old }
         ensures least { has_mark self.old.taken ≡ false
             → min (length self.old.waiting) (length items.old) ≤ result }
+        ensures near { has_mark self.old.taken ≡ false → min (length self.old.near) (length items.old) ≤ result }
         ensures taken { self.new.taken ≡ self.old.taken ++ take result items.new }
         ensures last { mark_last self.new.taken ≡ true }
         ensures ended { has_mark self.old.taken ≡ true → result ≡ 0 }
@@ -144,6 +147,7 @@ impl<T: Copy + Send> Taker<T> {
         ensures taken { self.new.taken ≡ self.old.taken ++ self.new.list }
         ensures count { result ≡ length self.new.list }
         ensures some { 0 < length self.old.waiting → has_mark self.old.taken ≡ false → 0 < result }
+        ensures near { 0 < length self.old.near → has_mark self.old.taken ≡ false → 0 < result }
         ensures last { mark_last self.new.taken ≡ true }
         ensures ended { has_mark self.old.taken ≡ true → result ≡ 0 }
     {
@@ -173,13 +177,7 @@ impl<T: Copy + Send> Taker<T> {
     #[inline(always)]
     #[tactic(auto, using(crate::proofs::Taken::of_the_rest))]
     fn has_next(&mut self) -> bool
-        ensures lane { SameTaker self.old self.new }
-        ensures taken { self.new.taken ≡ self.old.taken }
-        ensures near { length self.old.near ≤ length self.new.near }
-        ensures last { mark_last self.new.taken ≡ true }
-        ensures some { IsTrue result → 1 ≤ length self.new.rest }
-        ensures none { IsFalse result → (length self.old.near ≡ 0) × (length self.new.rest ≡ 0) }
-        ensures none_waits { IsFalse result → length self.old.waiting ≡ 0 }
+        ensures { HasInHand result self.old self.new }
     {
         self.at < self.list.len() || self.next_list()
     }
@@ -188,13 +186,7 @@ impl<T: Copy + Send> Taker<T> {
     #[tactic(auto, using(crate::proofs::Taken::of_a_slot))]
     fn next_list(&mut self) -> bool
         requires { length self.old.rest ≡ 0 }
-        ensures lane { SameTaker self.old self.new }
-        ensures taken { self.new.taken ≡ self.old.taken }
-        ensures near { length self.old.near ≤ length self.new.near }
-        ensures last { mark_last self.new.taken ≡ true }
-        ensures some { IsTrue result → 1 ≤ length self.new.rest }
-        ensures none { IsFalse result → (length self.old.near ≡ 0) × (length self.new.rest ≡ 0) }
-        ensures none_waits { IsFalse result → length self.old.waiting ≡ 0 }
+        ensures { HasInHand result self.old self.new }
     {
         let Ok(slot) = self.ring.pop() else {
             return false;
@@ -247,13 +239,8 @@ impl<T: Copy + Send> Taker<T> {
     #[tactic(auto, using(crate::proofs::Taken::of_both))]
     pub fn beside(&mut self, sender: &mut Sender<T>)
         requires { sender.old.lane ≡ self.old.lane }
-        ensures lane { SameTaker self.old self.new × SameSender sender.old sender.new }
-        ensures taken { self.new.taken ≡ self.old.taken }
-        ensures put { put_of sender.new ≡ put_of sender.old }
-        ensures waiting { self.new.taken ++ self.new.waiting ≡ put_of sender.new }
-        ensures knew { known_taken sender.old ≤ length self.new.taken }
+        ensures compared { AreCompared self.old self.new sender.old sender.new }
         ensures knows { length self.new.taken ≤ known_taken sender.new }
-        ensures last { mark_last (put_of sender.new) ≡ true }
     {
         sender.flush();
         let rest = self.list.len() - self.at;
@@ -271,13 +258,8 @@ impl<T: Copy + Send> Taker<T> {
     #[tactic(auto, using(crate::proofs::Marks::all_taken))]
     pub fn settle(&mut self, end: &mut End<T>)
         requires { end.old.lane ≡ self.old.lane }
-        ensures lane { SameTaker self.old self.new × SameSender end.old end.new }
-        ensures taken { self.new.taken ≡ self.old.taken }
-        ensures put { put_of end.new ≡ put_of end.old }
-        ensures waiting { self.new.taken ++ self.new.waiting ≡ put_of end.new }
-        ensures knew { known_taken end.old ≤ length self.new.taken }
+        ensures compared { AreCompared self.old self.new end.old end.new }
         ensures prefix { IsBeginning self.new.taken (put_of end.new) }
-        ensures last { mark_last (put_of end.new) ≡ true }
         ensures whole { has_mark self.new.taken ≡ true → self.new.taken ≡ put_of end.new }
     {
         self.beside(&mut end.sender);
@@ -331,22 +313,8 @@ fn look<T: Copy + Send>(
     rest: usize,
     owed: usize,
 ) -> usize
-    requires rings { IsPair giving.old.ring ring.old }
-    requires pair { IsPair giving.old.units units.old }
-    requires paid { length (received units.old) + rest ≤ length (all_items (received ring.old)) }
-    requires owes { owed ≡ (length (all_items (received ring.old)) - rest - length (received units.old)) % 2 ^ 64 }
-    ensures giving { HasLooked giving.old giving.new }
-    ensures ring { SameConsumer ring.old ring.new }
-    ensures units { SameConsumer units.old units.new }
-    ensures received { received ring.new ≡ received ring.old }
-    ensures fifo { received ring.new ++ known_items ring.new ≡ sent giving.new.ring }
-    ensures all_paid { length (received units.new) + rest ≡ length (all_items (received ring.new)) }
-    ensures known { result ≡ length (all_items (known_items ring.new)) }
-    ensures most { result ≤ consumer_capacity units.new }
-    ensures knew { length (items_sent giving.old) + room_in giving.old
-        ≤ producer_capacity giving.new.units + length (received units.new) }
-    ensures knows { producer_capacity giving.new.units + length (received units.new)
-        ≤ length (items_sent giving.new) + room_in giving.new }
+    requires { MayLook giving.old ring.old units.old rest owed }
+    ensures { HaveLooked giving.old giving.new ring.old ring.new units.old units.new rest result }
 {
     giving.ring.slots_beside(ring);
     ring.slots_beside(&mut giving.ring);

@@ -140,15 +140,3 @@ within_up_to first kind place units (suc n) h f = within_append (accesses_up_to 
 
 pub within_units : (location : ℕ) (kind : Kind) (place units : ℕ) → location < 2 ^ 64 → AreWithin (accesses location kind place units)
 within_units location kind place units h = within_up_to (first_of (block_of location)) kind place units 64 (omega arith) (omega (arith, h))
-
--- ---- one access
-
-module _ (s : State) (place l : ℕ) (kind : Kind) where
-  abbrev v : List Placed
-  v = record { place = place; what = access kind l } ∷ []
-
-  pub seen_one : ((state_from s v).bags ≡ s.bags) × ((q : ℕ) → (state_from s v).kept q ≡ with_cell l (touched s.bags.active kind place (s.kept l)) s.kept q)
-  seen_one = (access_bags s place l kind, access_kept s place l kind)
-
-  pub found_one : found_from s v ≡ option_to_list (race_at s.bags.active l kind place (s.kept l))
-  found_one = append-nil (option_to_list (rules.race_of s place (access kind l))) ∙ ap option_to_list (access_race s place l kind)

@@ -1,13 +1,13 @@
 -- Locations that begin a new life.
-use Rattle.online.proofs.Common.{◌≡◌, ◌≢◌, ℕ, ◌+◌, ◌*◌, ◌/◌, ◌%◌, ◌^◌, ◌<◌, Bool, true, false, ◌&&◌, List, length, cond, nat_eq, sym, ap, ◌∙◌, subst, ⊎_elim, arith, ne_eqb, Record, Placed, placed, Procedures, Cell, untouched, Shadow, kept_of, state_after, KeepsBest, has, Blocks, block_of, unit_of, is_unit, kept_in_blocks, named, lives_after, Online, kept_in_both, HasTakenPlaced, IsRunning, IsAfter}
+use Rattle.online.proofs.Common.{◌≡◌, ◌≢◌, ℕ, ◌+◌, ◌*◌, ◌/◌, ◌%◌, ◌^◌, ◌<◌, Bool, true, false, ◌&&◌, List, length, cond, nat_eq, sym, ap, ◌∙◌, subst, ⊎_elim, arith, ne_eqb, Record, Placed, placed, Procedures, Cell, untouched, Shadow, kept_of, state_after, KeepsBest, has, Blocks, block_of, unit_of, is_unit, kept_in_blocks, named, lives_after, HasOnlyAccessed, Online, kept_in_both, HasTakenPlaced, IsRunning, IsAfter}
 use Rattle.online.proofs.Found.{odd_cell, even_cell, parity}
 
-module _ (u : List Placed) (lives : ℕ → ℕ) (location units : ℕ) (d e : Online) (h : HasTakenPlaced u lives d) (bags : e.bags ≡ d.bags) (kept : e.kept ≡ d.kept)
-    (forgot : (l : ℕ) → kept_in_both e.cells e.blocks l ≡ cond (is_unit location units l) untouched (kept_in_both d.cells d.blocks l)) where
+module _ (u : List Placed) (lives : ℕ → ℕ) (location units : ℕ) (d e : Online) (h : HasTakenPlaced u lives d) (bags : e.sp_bags.bags ≡ d.sp_bags.bags) (kept : e.kept ≡ d.kept)
+    (forgot : (l : ℕ) → kept_in_both e.sp_bags.shadow e.blocks l ≡ cond (is_unit location units l) untouched (kept_in_both d.sp_bags.shadow d.blocks l)) where
   abbrev t : ℕ → Cell
   t = (state_after u).kept
 
-  life : (l : ℕ) → l < 2 ^ 64 → (b : Bool) → cond b untouched (kept_in_both d.cells d.blocks l) ≡ t (named l (cond b (lives l + 1) (lives l)))
+  life : (l : ℕ) → l < 2 ^ 64 → (b : Bool) → cond b untouched (kept_in_both d.sp_bags.shadow d.blocks l) ≡ t (named l (cond b (lives l + 1) (lives l)))
   life l f true = sym (h.later l (lives l + 1) f (omega arith))
   life l f false = h.cells_are l f
 
@@ -26,14 +26,14 @@ module _ (u : List Placed) (lives : ℕ → ℕ) (location units : ℕ) (d e : O
     races = h.races;
   }
 
-pub after_reborn : (u : List Record) (lives : ℕ → ℕ) (location units : ℕ) (d e : Online) → IsAfter u lives d → e.bags ≡ d.bags → e.kept ≡ d.kept → e.last_place ≡ d.last_place → e.ended ≡ d.ended → e.stopped ≡ d.stopped
-    → ((l : ℕ) → kept_in_both e.cells e.blocks l ≡ cond (is_unit location units l) untouched (kept_in_both d.cells d.blocks l)) → IsAfter u (lives_after location units lives) e
-after_reborn u lives location units d e h bags kept last ended going forgot = record {
-  met = taken_reborn (placed u) lives location units d e h.met bags kept forgot;
+pub after_reborn : (u : List Record) (lives : ℕ → ℕ) (location units : ℕ) (d e : Online) → IsAfter u lives d → HasOnlyAccessed d e → e.kept ≡ d.kept → e.sp_bags.last_place ≡ d.sp_bags.last_place
+    → ((l : ℕ) → kept_in_both e.sp_bags.shadow e.blocks l ≡ cond (is_unit location units l) untouched (kept_in_both d.sp_bags.shadow d.blocks l)) → IsAfter u (lives_after location units lives) e
+after_reborn u lives location units d e h only kept last forgot = record {
+  met = taken_reborn (placed u) lives location units d e h.met only.bags kept forgot;
   last = last ∙ h.last;
   within = h.within;
-  runs = subst (λ b. IsRunning u b (length e.bags.active)) (sym ended) (subst (λ (b : Procedures). IsRunning u d.ended (length b.active)) (sym bags) h.runs);
-  going = going ∙ h.going;
+  runs = subst (λ b. IsRunning u b (length e.sp_bags.bags.active)) (sym only.ended) (subst (λ (b : Procedures). IsRunning u d.sp_bags.ended (length b.active)) (sym only.bags) h.runs);
+  going = only.going ∙ h.going;
 }
 
 -- no unit of a block of another parity is among the units

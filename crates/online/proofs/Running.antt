@@ -1,8 +1,9 @@
 -- How far a run has come after more records, and the records of a block at their places.
-use Rattle.online.proofs.Common.{◌≡◌, ◌↔◌, ℕ, zero, suc, ◌+◌, ◌<◌, ◌≤◌, ◌^◌, nat_eq, true, false, Bool, List, [], ◌∷◌, ◌++◌, cond, length, map, ◌⊎◌, inl, inr, ⊎_elim, refl, sym, ◌∙◌, ap, subst, arith, length-append, bit_at, bit_at-lt, cases_Bool, eqb-true, append_assoc, map-append, count_ones, Kind, Record, Spawn, Call, Return, Sync, Read, Write, Placed, most_records, access, placed, depth, opens, closes, Procedures, Active, at_start, after_sync, after_return, untouched, State, state_after, after_record, state_after-push, KeepsBest, placed-next, has, units_before, location_of, block_of, first_of, access_of, accesses, even, block_records, all_units, in_life, placed_in_life, first_lives, Online, HasTakenPlaced, IsActiveCount, IsRunning, IsAfter, kept_in_both, append-nil}
+use Rattle.online.proofs.Common.{◌≡◌, ◌↔◌, ℕ, zero, suc, ◌+◌, ◌<◌, ◌≤◌, ◌^◌, nat_eq, true, false, Bool, List, [], ◌∷◌, ◌++◌, cond, length, map, ◌||◌, ◌⊎◌, inl, inr, ⊎_elim, refl, sym, ◌∙◌, ap, subst, arith, length-append, bit_at, bit_at-lt, cases_Bool, eqb-true, append_assoc, map-append, count_ones, Kind, Record, Spawn, Call, Return, Sync, Read, Write, Placed, most_records, access, placed, depth, opens, closes, Procedures, Active, after_sync, after_return, untouched, State, state_after, after_record, state_after-push, KeepsBest, placed-next, has, units_before, location_of, block_of, first_of, access_of, accesses, even, block_accesses, block_records, all_units, in_life, placed_in_life, first_lives, is_root_return, root_is, root_by, HasFollowedNext, TakesPlaced, HasOnlyAccessed, Online, HasTakenPlaced, IsActiveCount, IsRunning, IsAfter, kept_in_both, append-nil}
 use Rattle.online.specs.Accesses.{accesses_up_to}
 use Rattle.std.proofs.lemmas.List.Sums.{sum_by-append}
 use Rattle.dag.specs.declared.records.Kind.TheVariants as kinds
+use Rattle.shadow.specs.SpBags.{IsAtStart}
 use Rattle.trace.specs.Faults.{HasEnded}
 use Rattle.trace.proofs.Places.{depth-next, ended_before, ended_by, ended_after}
 
@@ -32,15 +33,15 @@ still_active s place (Write l) some others = (some, refl)
 none_ended : HasEnded [] → ⊥
 none_ended (i, p, e) = let a = p.0 in let b = p.1 in omega arith
 
-pub after_none : (d : Online) → d.bags ≡ at_start → ((l : ℕ) → kept_in_both d.cells d.blocks l ≡ untouched) → KeepsBest [] d.kept → d.last_place ≡ 0 → d.ended ≡ false → d.stopped ≡ false → IsAfter [] first_lives d
-after_none d bags_are kept_are keeps first runs going = record {
-  met = record { bags_are = bags_are; cells_are = λ l f. kept_are l; later = λ l k f j. refl; given = []; holds = keeps; none_failed = refl; races = refl };
-  last = first;
+pub after_none : (d : Online) → IsAtStart d.sp_bags → ((l : ℕ) → kept_in_both d.sp_bags.shadow d.blocks l ≡ untouched) → KeepsBest [] d.kept → d.stopped ≡ false → IsAfter [] first_lives d
+after_none d start kept_are keeps going = record {
+  met = record { bags_are = ap (λ (s : State). s.bags) start.state; cells_are = λ l f. kept_are l; later = λ l k f j. refl; given = []; holds = keeps; none_failed = refl; races = refl };
+  last = start.last_place;
   within = omega arith;
   runs = record {
-    by_return = ((λ e. absurd (cc)), (λ e. absurd (none_ended e)));
+    by_return = ((λ e. absurd (let f = start.running in cc)), (λ e. absurd (none_ended e)));
     counted = λ _.
-        let one : length d.bags.active ≡ 1 = ap (λ (b : Procedures). length b.active) bags_are in
+        let one : length d.sp_bags.bags.active ≡ 1 = ap (λ (s : State). length s.bags.active) start.state in
         record { some = omega arith; balance = omega arith };
   };
   going = going;
@@ -48,9 +49,30 @@ after_none d bags_are kept_are keeps first runs going = record {
 
 -- ---- one more
 
-module _ (u : List Record) (lives : ℕ → ℕ) (p : Placed) (d e : Online) (place : p.place ≡ length u + 1) (limit : p.place ≤ most_records) (h : IsAfter u lives d)
-    (meets : HasTakenPlaced (placed u) lives d → HasTakenPlaced (placed u ++ p ∷ []) lives e) (last : e.last_place ≡ p.place)
-    (ended : (e.ended ≡ true) ↔ ((d.ended ≡ true) ⊎ ((p.what ≡ Return) × (length d.bags.active ≡ 1)))) (going : e.stopped ≡ d.stopped) where
+-- the same record in its life
+root_in_life : (lives : ℕ → ℕ) (b : Procedures) (r : Record) → is_root_return b (in_life lives r) ≡ is_root_return b r
+root_in_life lives b Spawn = refl
+root_in_life lives b Call = refl
+root_in_life lives b Return = refl
+root_in_life lives b Sync = refl
+root_in_life lives b (Read l) = refl
+root_in_life lives b (Write l) = refl
+
+-- one of two is true
+either : (a b c : Bool) → c ≡ (a || b) → (c ≡ true) ↔ ((a ≡ true) ⊎ (b ≡ true))
+either true b c e = ((λ t. inl refl), (λ s. e))
+either false b c e = ((λ t. inr (sym e ∙ t)), (λ s. ⊎_elim (λ x. absurd (cc)) (λ x. e ∙ x) s))
+
+module _ (u : List Record) (lives : ℕ → ℕ) (what : Record) (d e : Online) (limit : d.sp_bags.last_place + 1 ≤ most_records) (h : IsAfter u lives d) (f : HasFollowedNext what d e) where
+  abbrev p : Placed
+  p = record { place = d.sp_bags.last_place + 1; what = in_life lives what }
+
+  comes_next : p.place ≡ length u + 1
+  comes_next = ap (λ n. n + 1) h.last
+
+  ended : (e.sp_bags.ended ≡ true) ↔ ((d.sp_bags.ended ≡ true) ⊎ (is_root_return d.sp_bags.bags p.what ≡ true))
+  ended = either d.sp_bags.ended (is_root_return d.sp_bags.bags p.what) e.sp_bags.ended (f.ended ∙ ap (λ b. d.sp_bags.ended || b) (sym (root_in_life lives d.sp_bags.bags what)))
+
   abbrev v : List Record
   v = u ++ p.what ∷ []
 
@@ -58,51 +80,52 @@ module _ (u : List Record) (lives : ℕ → ℕ) (p : Placed) (d e : Online) (pl
   longer = length-append u (p.what ∷ [])
 
   more : HasTakenPlaced (placed u ++ p ∷ []) lives e
-  more = meets h.met
+  more = f.met (placed u) lives h.met
 
-  were : length d.bags.active ≡ length (state_after (placed u)).bags.active
+  were : length d.sp_bags.bags.active ≡ length (state_after (placed u)).bags.active
   were = ap (λ (b : Procedures). length b.active) h.met.bags_are
 
-  are : length e.bags.active ≡ length (after_record (state_after (placed u)) p.place p.what).bags.active
+  are : length e.sp_bags.bags.active ≡ length (after_record (state_after (placed u)) p.place p.what).bags.active
   are = ap (λ (b : Procedures). length b.active) (more.bags_are ∙ ap (λ (s : State). s.bags) (state_after-push (placed u) p))
 
-  active : e.ended ≡ false → IsActiveCount v (length e.bags.active)
+  active : e.sp_bags.ended ≡ false → IsActiveCount v (length e.sp_bags.bags.active)
   active runs =
-      let ran : d.ended ≡ false = ⊎_elim (λ t. absurd (let z = ended.1 (inl t) in cc)) (λ f. f) (cases_Bool d.ended) in
+      let ran : d.sp_bags.ended ≡ false = ⊎_elim (λ t. absurd (let z = ended.1 (inl t) in cc)) (λ f. f) (cases_Bool d.sp_bags.ended) in
       let before = h.runs.counted ran in
-      let next = still_active (state_after (placed u)) p.place p.what (omega (arith, before.some, were)) (λ is one. absurd (let z = ended.1 (inr (is, were ∙ one)) in cc)) in
+      let next = still_active (state_after (placed u)) p.place p.what (omega (arith, before.some, were)) (λ is one. absurd (let z = ended.1 (inr (root_by d.sp_bags.bags p.what is (were ∙ one))) in cc)) in
       record { some = omega (arith, next.0, are); balance = omega (arith, before.balance, were, are, next.1, sum_by-append opens u (p.what ∷ []), sum_by-append closes u (p.what ∷ [])) }
 
-  to_end : e.ended ≡ true → HasEnded v
+  to_end : e.sp_bags.ended ≡ true → HasEnded v
   to_end t = ⊎_elim
       (λ before. ended_before u p.what (h.runs.by_return.0 before))
       (λ root. ⊎_elim
       (λ before. ended_before u p.what (h.runs.by_return.0 before))
       (λ ran.
-      let flat : depth u (suc (length u)) ≡ 0 = omega (arith, depth-next u, (h.runs.counted ran).balance, root.1) in
+      let returns = root_is d.sp_bags.bags p.what root in
+      let flat : depth u (suc (length u)) ≡ 0 = omega (arith, depth-next u, (h.runs.counted ran).balance, returns.1) in
       let P : Record → Type 0 = λ r. HasEnded (u ++ r ∷ []) in
-      subst P (sym root.0) (ended_by u flat))
-      (cases_Bool d.ended))
+      subst P (sym returns.0) (ended_by u flat))
+      (cases_Bool d.sp_bags.ended))
       (ended.0 t)
 
-  from_end : HasEnded v → e.ended ≡ true
+  from_end : HasEnded v → e.sp_bags.ended ≡ true
   from_end t = ⊎_elim
       (λ before. ended.1 (inl (h.runs.by_return.1 before)))
       (λ now. ⊎_elim
       (λ before. ended.1 (inl before))
-      (λ ran. let were_active = h.runs.counted ran in ended.1 (inr (now.0, omega (arith, now.1, depth-next u, were_active.balance, were_active.some))))
-      (cases_Bool d.ended))
+      (λ ran. let were_active = h.runs.counted ran in ended.1 (inr (root_by d.sp_bags.bags p.what now.0 (omega (arith, now.1, depth-next u, were_active.balance, were_active.some)))))
+      (cases_Bool d.sp_bags.ended))
       (ended_after u p.what t)
 
   pub after_next : IsAfter v lives e
   after_next =
       let P : List Placed → Type 0 = λ w. HasTakenPlaced w lives e in
       record {
-        met = subst P (sym (placed-next u p place)) more;
-        last = last ∙ place ∙ sym longer;
-        within = omega (arith, longer, place, limit);
+        met = subst P (sym (placed-next u p comes_next)) more;
+        last = f.last ∙ comes_next ∙ sym longer;
+        within = omega (arith, longer, comes_next, limit);
         runs = record { by_return = (to_end, from_end); counted = active };
-        going = going ∙ h.going;
+        going = f.going ∙ h.going;
       }
 
 -- ---- a block
@@ -203,9 +226,8 @@ life_of_all lives [] = refl
 life_of_all lives (p ∷ v) = ap (λ l. in_life lives p.what ∷ l) (life_of_all lives v)
 
 -- a block behind the records u
-module _ (u : List Record) (lives : ℕ → ℕ) (location reads writes : ℕ) (d e : Online) (some : reads < 2 ^ 64) (others : writes < 2 ^ 64) (limit : d.last_place + (count_ones reads + count_ones writes) ≤ most_records) (h : IsAfter u lives d)
-    (meets : HasTakenPlaced (placed u) lives d → HasTakenPlaced ((placed u ++ lived lives (accesses (even location) kinds.Read (d.last_place + 1) reads)) ++ lived lives (accesses (even location) kinds.Write (d.last_place + count_ones reads + 1) writes)) lives e)
-    (last : e.last_place ≡ d.last_place + (count_ones reads + count_ones writes)) (bags : e.bags ≡ d.bags) (ended : e.ended ≡ d.ended) (going : e.stopped ≡ d.stopped) where
+module _ (u : List Record) (lives : ℕ → ℕ) (location reads writes : ℕ) (d e : Online) (some : reads < 2 ^ 64) (others : writes < 2 ^ 64) (limit : d.sp_bags.last_place + (count_ones reads + count_ones writes) ≤ most_records) (h : IsAfter u lives d)
+    (met : TakesPlaced (block_accesses (even location) (d.sp_bags.last_place + 1) reads writes) d e) (last : e.sp_bags.last_place ≡ d.sp_bags.last_place + (count_ones reads + count_ones writes)) (only : HasOnlyAccessed d e) where
   abbrev page_first : ℕ
   page_first = first_of (block_of (even location))
 
@@ -215,14 +237,14 @@ module _ (u : List Record) (lives : ℕ → ℕ) (location reads writes : ℕ) (
   abbrev writing : List Record
   writing = whats (lived lives (accesses (even location) kinds.Write 1 writes))
 
-  reads_follow : FollowUpTo u lives page_first kinds.Read (d.last_place + 1) reads 64
-  reads_follow = follow_all u lives page_first kinds.Read (d.last_place + 1) reads 64 (ap (λ n. n + 1) h.last)
+  reads_follow : FollowUpTo u lives page_first kinds.Read (d.sp_bags.last_place + 1) reads 64
+  reads_follow = follow_all u lives page_first kinds.Read (d.sp_bags.last_place + 1) reads 64 (ap (λ n. n + 1) h.last)
 
   after_reads : length (u ++ reading) ≡ length u + count_ones reads
   after_reads = length-append u reading ∙ ap (λ n. length u + n) (reads_follow.many ∙ all_units reads some)
 
-  writes_follow : FollowUpTo (u ++ reading) lives page_first kinds.Write (d.last_place + count_ones reads + 1) writes 64
-  writes_follow = follow_all (u ++ reading) lives page_first kinds.Write (d.last_place + count_ones reads + 1) writes 64 (omega (arith, after_reads, h.last))
+  writes_follow : FollowUpTo (u ++ reading) lives page_first kinds.Write (d.sp_bags.last_place + 1 + count_ones reads) writes 64
+  writes_follow = follow_all (u ++ reading) lives page_first kinds.Write (d.sp_bags.last_place + 1 + count_ones reads) writes 64 (omega (arith, after_reads, h.last))
 
   longest : length ((u ++ reading) ++ writing) ≡ length u + (count_ones reads + count_ones writes)
   longest = omega (arith, length-append (u ++ reading) writing, after_reads, writes_follow.many, all_units writes others)
@@ -233,27 +255,21 @@ module _ (u : List Record) (lives : ℕ → ℕ) (location reads writes : ℕ) (
       let w : List Placed = accesses (even location) kinds.Write 1 writes in
       ap (λ l. u ++ l) (life_of_all lives (v ++ w) ∙ ap whats (map-append (placed_in_life lives) v w) ∙ map-append (λ (p : Placed). p.what) (lived lives v) (lived lives w)) ∙ sym (append_assoc u reading writing)
 
-  places : placed ((u ++ reading) ++ writing) ≡ (placed u ++ lived lives (accesses (even location) kinds.Read (d.last_place + 1) reads)) ++ lived lives (accesses (even location) kinds.Write (d.last_place + count_ones reads + 1) writes)
-  places = writes_follow.places ∙ ap (λ v. v ++ lived lives (accesses (even location) kinds.Write (d.last_place + count_ones reads + 1) writes)) reads_follow.places
+  places : placed ((u ++ reading) ++ writing) ≡ placed u ++ lived lives (block_accesses (even location) (d.sp_bags.last_place + 1) reads writes)
+  places =
+      let v : List Placed = accesses (even location) kinds.Read (d.sp_bags.last_place + 1) reads in
+      let w : List Placed = accesses (even location) kinds.Write (d.sp_bags.last_place + 1 + count_ones reads) writes in
+      writes_follow.places ∙ ap (λ l. l ++ lived lives w) reads_follow.places ∙ append_assoc (placed u) (lived lives v) (lived lives w) ∙ ap (λ l. placed u ++ l) (sym (map-append (placed_in_life lives) v w))
 
   after_both : IsAfter ((u ++ reading) ++ writing) lives e
   after_both = record {
-    met = subst (λ v. HasTakenPlaced v lives e) (sym places) (meets h.met);
+    met = subst (λ v. HasTakenPlaced v lives e) (sym places) (met (placed u) lives h.met);
     last = last ∙ ap (λ n. n + (count_ones reads + count_ones writes)) h.last ∙ sym longest;
     within = omega (arith, longest, limit, h.last);
-    runs = subst (λ b. IsRunning ((u ++ reading) ++ writing) b (length e.bags.active)) (sym ended)
-        (subst (λ (b : Procedures). IsRunning ((u ++ reading) ++ writing) d.ended (length b.active)) (sym bags) (writes_follow.run d.ended (length d.bags.active) (reads_follow.run d.ended (length d.bags.active) h.runs)));
-    going = going ∙ h.going;
+    runs = subst (λ b. IsRunning ((u ++ reading) ++ writing) b (length e.sp_bags.bags.active)) (sym only.ended)
+        (subst (λ (b : Procedures). IsRunning ((u ++ reading) ++ writing) d.sp_bags.ended (length b.active)) (sym only.bags) (writes_follow.run d.sp_bags.ended (length d.sp_bags.bags.active) (reads_follow.run d.sp_bags.ended (length d.sp_bags.bags.active) h.runs)));
+    going = only.going ∙ h.going;
   }
 
   pub after_block : IsAfter (u ++ map (in_life lives) (block_records location reads writes)) lives e
   after_block = subst (λ v. IsAfter v lives e) (sym all) after_both
-
--- a record in its life is a return if it is one
-pub returns_in_life : (lives : ℕ → ℕ) (r : Record) → (in_life lives r ≡ Return) ↔ (r ≡ Return)
-returns_in_life lives Spawn = ((λ e. absurd (cc)), (λ e. absurd (cc)))
-returns_in_life lives Call = ((λ e. absurd (cc)), (λ e. absurd (cc)))
-returns_in_life lives Return = ((λ e. refl), (λ e. refl))
-returns_in_life lives Sync = ((λ e. absurd (cc)), (λ e. absurd (cc)))
-returns_in_life lives (Read l) = ((λ e. absurd (cc)), (λ e. absurd (cc)))
-returns_in_life lives (Write l) = ((λ e. absurd (cc)), (λ e. absurd (cc)))

@@ -1,4 +1,4 @@
 pub mod Accesses
 pub mod Online
-pub mod Ready
+pub mod Steps
 pub mod Lives

@@ -9,28 +9,30 @@ use Rattle.dag.specs.Accesses.{RaceAt}
 use Rattle.dag.specs.Bounds.{most_records}
 use Rattle.dag.specs.Traces.{placed, opens, closes}
 use Rattle.trace.specs.Faults.{HasEnded}
-use Rattle.bags.specs.Procedures.{Procedures}
 use Rattle.shadow.specs.Cells.{Cell, untouched}
 use Rattle.shadow.specs.Shadow.{Shadow, kept_of}
 use Rattle.shadow.specs.Found.{state_after, found}
+use Rattle.shadow.specs.SpBags.{SpBags}
 use Rattle.collect.specs.Collected.{Collection, KeepsBest, races_of, fails}
-use Rattle.blocks.specs.Blocks.{Blocks, kept_in_blocks}
+use Rattle.blocks.specs.Blocks.{Blocks, kept_in_blocks, next_place_of, count_of_blocks}
 use Rattle.online.specs.Lives.{named, at_home}
 
--- its bags, the shadow memory of odd locations and that of even ones, the races that are kept for the report, the place
--- of the last record, whether the root has returned, and whether a growth was refused
+-- its bags with the shadow memory of odd locations, the shadow memory of even ones, the races that are kept for the
+-- report, and whether a growth was refused
 pub record Online : Type 0 where
-  pub bags : Procedures
-  pub cells : Shadow
+  pub sp_bags : SpBags
   pub blocks : Blocks
   pub kept : Collection
-  pub last_place : ℕ
-  pub ended : Bool
   pub stopped : Bool
 
 -- a growth was refused
 abbrev pub IsStopped : Online → Type 0
 IsStopped d = d.stopped ≡ true
+
+-- the blocks may take accesses behind the last record
+pub record AreBehind (blocks : Blocks) (s : SpBags) : Type 0 where
+  pub next_place : next_place_of blocks ≤ s.last_place + 1
+  pub known : count_of_blocks blocks ≤ s.bags.count
 
 -- what both shadow memories keep of a location
 abbrev pub kept_in_both : Shadow → Blocks → ℕ → Cell
@@ -38,9 +40,10 @@ kept_in_both cells blocks l = if l % 2 == 1 then kept_of cells l else kept_in_bl
 
 -- it has taken these records, and the locations are now in these lives
 pub record HasTakenPlaced (u : List Placed) (lives : ℕ → ℕ) (d : Online) : Type 0 where
-  pub bags_are : d.bags ≡ (state_after u).bags
+  pub bags_are : d.sp_bags.bags ≡ (state_after u).bags
   -- what it keeps of a location is of the location's present life, and later lives have no access yet
-  pub cells_are : (l : ℕ) → l < 2 ^ 64 → kept_in_both d.cells d.blocks l ≡ (state_after u).kept (named l (lives l))
+  pub cells_are : (l : ℕ) → l < 2 ^ 64
+      → kept_in_both d.sp_bags.shadow d.blocks l ≡ (state_after u).kept (named l (lives l))
   pub later : (l k : ℕ) → l < 2 ^ 64 → lives l < k → (state_after u).kept (named l k) ≡ untouched
   -- and a collector was given exactly the races found in them
   pub given : List Back
@@ -62,9 +65,9 @@ pub record IsRunning (u : List Record) (ended : Bool) (active : ℕ) : Type 0 wh
 -- in these lives
 pub record IsAfter (u : List Record) (lives : ℕ → ℕ) (d : Online) : Type 0 where
   pub met : HasTakenPlaced (placed u) lives d
-  pub last : d.last_place ≡ length u
+  pub last : d.sp_bags.last_place ≡ length u
   pub within : length u ≤ most_records
-  pub runs : IsRunning u d.ended (length d.bags.active)
+  pub runs : IsRunning u d.sp_bags.ended (length d.sp_bags.bags.active)
   pub going : d.stopped ≡ false
 
 -- a record of its own kind at which memory may be wanted: a spawn, a call, any access of an even location, and the

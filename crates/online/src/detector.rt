@@ -1,6 +1,6 @@
 //! The detector and its answers.
-ghost use Rattle.std.specs.Prelude.{◌≡◌, ◌≢◌, ◌↔◌, ◌⊎◌, ℕ, ◌+◌, ◌<◌, ◌≤◌, true, false, List, [], ◌∷◌, ◌++◌, length};
-ghost use Rattle.std.specs.Prelude.{IfOk, IfErr, IsErr, OnOk, OnErr, map, ◌*◌, ◌/◌, ◌%◌, ◌^◌, if◌then◌else◌};
+ghost use Rattle.std.specs.Prelude.{◌≡◌, ◌≢◌, ◌↔◌, ◌⊎◌, ℕ, ◌+◌, ◌<◌, ◌≤◌, true, List, [], ◌∷◌, ◌++◌};
+ghost use Rattle.std.specs.Prelude.{IfOk, IfErr, IsErr, OnOk, OnErr, map, ◌%◌};
 ghost use Rattle.std.specs.Int.RustNames.{count_ones};
 ghost use Rattle.dag.specs.Bounds.{most_records};
 ghost use Rattle.dag.specs.declared.back.Back.{Back};
@@ -8,26 +8,22 @@ ghost use Rattle.dag.specs.declared.records.Kind.{Kind};
 ghost use Rattle.dag.specs.Races.{access};
 ghost use Rattle.dag.specs.declared.records.Record.{Record};
 ghost use Rattle.dag.specs.declared.records.Placed.{Placed};
-ghost use Rattle.dag.specs.Traces.{placed, IsWellNested};
-ghost use Rattle.trace.specs.Faults.{HasEnded};
+ghost use Rattle.dag.specs.Traces.{IsWellNested};
 ghost use Rattle.shadow.specs.Found.{by_location, found, verdict};
 ghost use Rattle.collect.specs.Collected.{KeepsBest};
 ghost use Rattle.verdict.specs.Reported.{IsReportOf};
-ghost use Rattle.bags.specs.Procedures.{event};
-ghost use Rattle.shadow.specs.Cells.{untouched};
-ghost use Rattle.shadow.specs.Shadow.{kept_of, last_place_of, least_count_of};
-ghost use Rattle.blocks.specs.Blocks.{is_unit, next_place_of};
-ghost use Rattle.online.specs.Accesses.{accesses, block_records};
+ghost use Rattle.online.specs.Accesses.{accesses, block_accesses, block_records};
 ghost use Rattle.verdict.specs.Racy.{HasLocation};
-ghost use Rattle.online.specs.Lives.{in_life, placed_in_life, first_lives, lives_after, AreOfFirstLives};
+ghost use Rattle.online.specs.Lives.{in_life, first_lives, lives_after, AreOfFirstLives};
 ghost use Rattle.online.specs.Lives.{IsReportOfLives, HasRacyLife, IsRaceCount};
-ghost use Rattle.online.specs.Online.{HasTakenPlaced, IsAfter, IsStopped, WantsMemory, MayWant};
+ghost use Rattle.online.specs.Online.{HasTakenPlaced, IsAfter, IsStopped, MayWant};
+ghost use Rattle.online.specs.Steps.{HasTakenMore, RefusesRecords, IsAdmission, HasFollowedNext, Wants, IsApart};
+ghost use Rattle.online.specs.Steps.{TakesPlaced, HasOnlyAccessed, HasForgottenUnits};
 
-use bags::Bags;
 use blocks::BlockShadow;
 use collect::{Collector, Report};
-use dag::{Kind, MOST_RECORDS};
-use shadow::Shadow;
+use dag::{Kind, MOST_RECORDS, Placed};
+use shadow::{Shadow, SpBags};
 use std::alloc::Global;
 use std::hash::BuildHasher;
 use std::marker::Model;
@@ -51,13 +47,11 @@ pub enum Refusal {
 #[derive(Drop)]
 pub struct Detector<S: BuildHasher + Drop> {
     alloc: Global,
-    bags: Bags,
-    cells: Shadow<S>,
+    /// The bags, and the shadow memory of odd locations.
+    sp_bags: SpBags<S>,
+    /// The shadow memory of even locations.
     blocks: BlockShadow<S>,
     collector: Collector,
-    last_place: u64,
-    /// Whether the root has returned.
-    ended: bool,
     /// Whether the allocator has refused a growth.
     stopped: bool,
 }
@@ -65,24 +59,20 @@ pub struct Detector<S: BuildHasher + Drop> {
 impl<S: BuildHasher + Drop> Model for Detector<S> {
     ghost use Rattle.std.specs.Coded.{codes};
     ghost use Rattle.bags.specs.Procedures.{coded_procedures};
-    ghost use Rattle.online.specs.Online.{Online};
-    ghost use Rattle.online.specs.Ready.{AreReadyBehind};
+    ghost use Rattle.online.specs.Online.{Online, AreBehind};
 
     ghost Value = { Online };
 
     ghost coded = { Prim.hlevel (codes, coded_procedures) };
 
     ghost view = { λ d. record {
-      bags = d.bags;
-      cells = d.cells;
+      sp_bags = d.sp_bags;
       blocks = d.blocks;
       kept = d.collector;
-      last_place = d.last_place;
-      ended = d.ended;
       stopped = d.stopped;
     } };
 
-    ghost invariant = { λ d. AreReadyBehind d.bags d.cells d.blocks d.last_place };
+    ghost invariant = { λ d. AreBehind d.blocks d.sp_bags };
 }
 
 impl<S: BuildHasher + Drop> Detector<S> {
@@ -93,12 +83,9 @@ impl<S: BuildHasher + Drop> Detector<S> {
     {
         Ok(Detector {
             alloc,
-            bags: Bags::new(alloc)?,
-            cells: Shadow::for_program(alloc, of_cells),
+            sp_bags: SpBags::new(alloc, Shadow::for_program(alloc, of_cells))?,
             blocks: BlockShadow::with_hasher(alloc, of_blocks),
             collector: Collector::new(alloc),
-            last_place: 0,
-            ended: false,
             stopped: false,
         })
     }
@@ -108,22 +95,12 @@ impl<S: BuildHasher + Drop> Detector<S> {
     /// After a refused growth the detector stays stopped: it takes no record, and gives no report.
     #[inline(always)]
     pub fn take(&mut self, what: Record) -> Result<(), Refusal>
-        ensures taken { OnOk result ((u : List Record) (lives : ℕ → ℕ) → IsAfter u lives self.old
-            → IsAfter (u ++ in_life lives what ∷ []) lives self.new) }
-
-        // A record that may not come changes nothing.
-        ensures after_end { (u : List Record) (lives : ℕ → ℕ) → IsAfter u lives self.old
-            → (result ≡ Err Refusal.AfterEnd) ↔ (HasEnded u × (length u < most_records)) }
-        ensures too_many { (u : List Record) (lives : ℕ → ℕ) → IsAfter u lives self.old
-            → (result ≡ Err Refusal.TooMany) ↔ (length u ≡ most_records) }
-        ensures unchanged { IfErr result (λ refusal. refusal ≢ Refusal.NoMemory → self.new ≡ self.old) }
-
-        // The allocator can refuse a growth only if the record may need memory. Then the detector is stopped for
-        // good.
+        ensures taken { OnOk result (HasTakenMore (what ∷ []) self.old self.new) }
+        // A record that may not come changes nothing. The allocator can refuse a growth only if the record may need
+        // memory. Then the detector is stopped for good.
+        ensures refused { RefusesRecords 1 self.old self.new result }
         ensures want { (u : List Record) (lives : ℕ → ℕ) → IsAfter u lives self.old
             → result ≡ Err Refusal.NoMemory → MayWant u (in_life lives what) }
-        ensures stops { result ≡ Err Refusal.NoMemory → IsStopped self.new }
-        ensures stopped { IsStopped self.old → result ≡ Err Refusal.NoMemory }
     {
         self.admit(1)?;
         let followed = self.follow(what);
@@ -135,21 +112,10 @@ impl<S: BuildHasher + Drop> Detector<S> {
     /// whole.
     #[inline(always)]
     pub fn take_block(&mut self, location: u64, reads: u64, writes: u64) -> Result<(), Refusal>
-        ensures taken { OnOk result ((u : List Record) (lives : ℕ → ℕ) → IsAfter u lives self.old
-            → IsAfter (u ++ map (in_life lives) (block_records location reads writes)) lives self.new) }
-
-        ensures after_end { (u : List Record) (lives : ℕ → ℕ) → IsAfter u lives self.old
-            → (result ≡ Err Refusal.AfterEnd)
-            ↔ (HasEnded u × (length u + (count_ones reads + count_ones writes) ≤ most_records)) }
-        ensures too_many { (u : List Record) (lives : ℕ → ℕ) → IsAfter u lives self.old
-            → (result ≡ Err Refusal.TooMany)
-            ↔ (most_records < length u + (count_ones reads + count_ones writes)) }
-        ensures unchanged { IfErr result (λ refusal. refusal ≢ Refusal.NoMemory → self.new ≡ self.old) }
-
+        ensures taken { OnOk result (HasTakenMore (block_records location reads writes) self.old self.new) }
+        ensures refused { RefusesRecords (count_ones reads + count_ones writes) self.old self.new result }
         ensures want { (u : List Record) (lives : ℕ → ℕ) → IsAfter u lives self.old
             → result ≡ Err Refusal.NoMemory → (reads ≢ 0) ⊎ (writes ≢ 0) }
-        ensures stops { result ≡ Err Refusal.NoMemory → IsStopped self.new }
-        ensures stopped { IsStopped self.old → result ≡ Err Refusal.NoMemory }
     {
         self.admit(u64::from(reads.count_ones() + writes.count_ones()))?;
         let followed = self.touch_both(location / 2 * 2, reads, writes);
@@ -164,7 +130,7 @@ impl<S: BuildHasher + Drop> Detector<S> {
         ensures stopped { IsStopped self.old → IsStopped self.new }
     {
         if location % 2 == 1 {
-            forget_cells(&mut self.cells, location / 128 * 128 + 1, units);
+            forget_cells(&mut self.sp_bags, location / 128 * 128 + 1, units);
         } else {
             self.blocks.forget(location, units);
         }
@@ -181,21 +147,15 @@ impl<S: BuildHasher + Drop> Detector<S> {
     #[inline(always)]
     fn admit(&self, count: u64) -> Result<(), Refusal>
         requires { count ≤ 128 }
-        ensures ok { OnOk result ((self.now.stopped ≡ false) × (self.now.ended ≡ false)
-            × (self.now.last_place + count ≤ most_records)) }
-        ensures no_memory { (result ≡ Err Refusal.NoMemory) ↔ (self.now.stopped ≡ true) }
-        ensures too_many { (result ≡ Err Refusal.TooMany)
-            ↔ ((self.now.stopped ≡ false) × (most_records < self.now.last_place + count)) }
-        ensures after_end { (result ≡ Err Refusal.AfterEnd) ↔ ((self.now.stopped ≡ false)
-            × (self.now.ended ≡ true) × (self.now.last_place + count ≤ most_records)) }
+        ensures { IsAdmission count self.now result }
     {
         if self.stopped {
             return Err(Refusal::NoMemory);
         }
-        if self.last_place > MOST_RECORDS - count {
+        if self.sp_bags.last_place() > MOST_RECORDS - count {
             return Err(Refusal::TooMany);
         }
-        if self.ended {
+        if self.sp_bags.has_ended() {
             return Err(Refusal::AfterEnd);
         }
         Ok(())
@@ -218,126 +178,86 @@ impl<S: BuildHasher + Drop> Detector<S> {
     // Takes a record at the next place.
     #[inline(always)]
     fn follow(&mut self, what: Record) -> Result<(), NoMemory>
-        requires { self.old.last_place < most_records }
-        ensures met { OnOk result ((u : List Placed) (lives : ℕ → ℕ) → HasTakenPlaced u lives self.old
-            → HasTakenPlaced (u ++ record { place = self.old.last_place + 1; what = in_life lives what } ∷ [])
-            lives self.new) }
-        ensures last { OnOk result (self.new.last_place ≡ self.old.last_place + 1) }
-        ensures ended { OnOk result ((self.new.ended ≡ true) ↔ ((self.old.ended ≡ true)
-            ⊎ ((what ≡ Record.Return) × (length self.old.bags.active ≡ 1)))) }
-        ensures going { self.new.stopped ≡ self.old.stopped }
-        ensures want { OnErr result ((u : List Placed) (lives : ℕ → ℕ) → HasTakenPlaced u lives self.old
-            → WantsMemory u (record { place = self.old.last_place + 1; what = in_life lives what })) }
+        requires { self.old.sp_bags.last_place < most_records }
+        ensures followed { OnOk result (HasFollowedNext what self.old self.new) }
+        ensures want { OnErr result (Wants what self.old) }
     {
-        self.last_place += 1;
-        let place = self.last_place;
         match what {
-            Record::Spawn => self.bags.spawn(),
-            Record::Call => self.bags.call(),
-            Record::Sync => {
-                self.bags.sync();
-                Ok(())
-            }
-            Record::Return => {
-                self.go_back();
-                Ok(())
-            }
-            Record::Read(location) => self.access(location, Kind::Read, place),
-            Record::Write(location) => self.access(location, Kind::Write, place),
+            Record::Read(location) => self.access(what, location, Kind::Read),
+            Record::Write(location) => self.access(what, location, Kind::Write),
+            Record::Spawn | Record::Call | Record::Return | Record::Sync => self.apply(what),
         }
     }
 
-    // Takes an access at this place, which is that of the last record.
+    // Takes this access of the location at the next place.
     #[inline(always)]
-    fn access(&mut self, location: u64, kind: Kind, place: u64) -> Result<(), NoMemory>
-        requires later { last_place_of self.old.cells < place }
-        requires next { next_place_of self.old.blocks ≤ place }
-        requires from_one { 1 ≤ place }
-        requires last { place ≡ self.old.last_place }
-        requires to_limit { place ≤ most_records }
-        ensures met { OnOk result ((u : List Placed) (lives : ℕ → ℕ) → HasTakenPlaced u lives self.old
-            → HasTakenPlaced (u ++ record { place = place; what = in_life lives (access kind location) } ∷ [])
-            lives self.new) }
-        ensures bags { self.new.bags ≡ self.old.bags }
-        ensures last { self.new.last_place ≡ self.old.last_place }
-        ensures ended { self.new.ended ≡ self.old.ended }
-        ensures going { self.new.stopped ≡ self.old.stopped }
-        ensures want { OnErr result ((u : List Placed) (lives : ℕ → ℕ) → HasTakenPlaced u lives self.old
-            → WantsMemory u (record { place = place; what = in_life lives (access kind location) })) }
+    fn access(&mut self, what: Record, location: u64, kind: Kind) -> Result<(), NoMemory>
+        requires room { self.old.sp_bags.last_place < most_records }
+        requires is { what ≡ access kind location }
+        ensures followed { OnOk result (HasFollowedNext what self.old self.new) }
+        ensures want { OnErr result (Wants what self.old) }
     {
         if location % 2 == 0 {
-            return self.touch(location, kind, place, unit_of(location));
-        }
-        match self.cells.touch(&self.bags, location, kind, place)? {
-            None => Ok(()),
-            Some(race) => self.collector.take(Back::Race(race)),
+            self.touch(location, kind, unit_of(location))
+        } else {
+            self.apply(what)
         }
     }
 
-    // The executing procedure returns. The root's return changes no bag.
+    // Takes a record at the next place that is no access to an even location.
     #[inline(always)]
-    fn go_back(&mut self)
-        ensures bags { self.new.bags ≡ event self.old.bags Record.Return }
-        ensures ended { (self.new.ended ≡ true) ↔ ((self.old.ended ≡ true) ⊎ (length self.old.bags.active ≡ 1)) }
-        ensures cells { self.new.cells ≡ self.old.cells }
-        ensures blocks { self.new.blocks ≡ self.old.blocks }
-        ensures kept { self.new.kept ≡ self.old.kept }
-        ensures last { self.new.last_place ≡ self.old.last_place }
-        ensures going { self.new.stopped ≡ self.old.stopped }
+    fn apply(&mut self, what: Record) -> Result<(), NoMemory>
+        requires room { self.old.sp_bags.last_place < most_records }
+        requires apart { IsApart what }
+        ensures followed { OnOk result (HasFollowedNext what self.old self.new) }
+        ensures want { OnErr result (Wants what self.old) }
     {
-        if self.bags.active() > 1 {
-            self.bags.ret();
-        } else {
-            self.ended = true;
+        let place = self.sp_bags.last_place() + 1;
+        match self.sp_bags.apply(Placed { place, what })? {
+            None => Ok(()),
+            Some(race) => self.collector.take(Back::Race(race)),
         }
     }
 
     #[inline(always)]
     fn touch_both(&mut self, location: u64, reads: u64, writes: u64) -> Result<(), NoMemory>
         requires even { location % 2 ≡ 0 }
-        requires to_limit { self.old.last_place + (count_ones reads + count_ones writes) ≤ most_records }
-        ensures met { OnOk result ((u : List Placed) (lives : ℕ → ℕ) → HasTakenPlaced u lives self.old
-            → HasTakenPlaced ((u
-            ++ map (placed_in_life lives) (accesses location Kind.Read (self.old.last_place + 1) reads))
-            ++ map (placed_in_life lives) (accesses location Kind.Write
-            (self.old.last_place + count_ones reads + 1) writes)) lives self.new) }
+        requires room { self.old.sp_bags.last_place + (count_ones reads + count_ones writes) ≤ most_records }
+        ensures met { OnOk result (TakesPlaced (block_accesses location (self.old.sp_bags.last_place + 1) reads writes)
+            self.old self.new) }
         ensures want { OnErr result ((reads ≢ 0) ⊎ (writes ≢ 0)) }
-        ensures last { OnOk result (self.new.last_place
-            ≡ self.old.last_place + (count_ones reads + count_ones writes)) }
-        ensures bags { self.new.bags ≡ self.old.bags }
-        ensures ended { self.new.ended ≡ self.old.ended }
-        ensures going { self.new.stopped ≡ self.old.stopped }
+        ensures last { OnOk result (self.new.sp_bags.last_place
+            ≡ self.old.sp_bags.last_place + (count_ones reads + count_ones writes)) }
+        ensures only { HasOnlyAccessed self.old self.new }
     {
-        let first = self.last_place + 1;
-        let second = first + u64::from(reads.count_ones());
-        self.last_place += u64::from(reads.count_ones() + writes.count_ones());
-        self.touch(location, Kind::Read, first, reads)?;
-        self.touch(location, Kind::Write, second, writes)
+        self.touch(location, Kind::Read, reads)?;
+        self.touch(location, Kind::Write, writes)
     }
 
-    // Takes accesses to units of the even location's block, the first of them at this place.
+    // Takes accesses to units of the even location's block, at the next places.
     #[inline(always)]
-    fn touch(&mut self, location: u64, kind: Kind, place: u64, units: u64) -> Result<(), NoMemory>
+    fn touch(&mut self, location: u64, kind: Kind, units: u64) -> Result<(), NoMemory>
         requires even { location % 2 ≡ 0 }
-        requires later { next_place_of self.old.blocks ≤ place }
-        requires from_one { 1 ≤ place }
-        requires within { place + count_ones units ≤ self.old.last_place + 1 }
-        requires to_limit { self.old.last_place ≤ most_records }
-        ensures met { OnOk result ((u : List Placed) (lives : ℕ → ℕ) → HasTakenPlaced u lives self.old
-            → HasTakenPlaced (u ++ map (placed_in_life lives) (accesses location kind place units)) lives self.new) }
+        requires room { self.old.sp_bags.last_place + count_ones units ≤ most_records }
+        ensures met { OnOk result (TakesPlaced (accesses location kind (self.old.sp_bags.last_place + 1) units)
+            self.old self.new) }
         ensures want { OnErr result (units ≢ 0) }
-        ensures later { next_place_of self.new.blocks ≤ place + count_ones units }
-        ensures bags { self.new.bags ≡ self.old.bags }
-        ensures last { self.new.last_place ≡ self.old.last_place }
-        ensures ended { self.new.ended ≡ self.old.ended }
-        ensures going { self.new.stopped ≡ self.old.stopped }
+        ensures last { self.new.sp_bags.last_place ≡ self.old.sp_bags.last_place + count_ones units }
+        ensures only { HasOnlyAccessed self.old self.new }
     {
         if units == 0 {
             return Ok(());
         }
+        let place = self.sp_bags.pass(u64::from(units.count_ones()));
         let mut races = Vec::new(self.alloc);
-        self.blocks
-            .touch(&self.bags, location, kind, place, units, &mut races)?;
+        self.blocks.touch(
+            self.sp_bags.bags(),
+            location,
+            kind,
+            place,
+            units,
+            &mut races,
+        )?;
         if races.is_empty() {
             return Ok(());
         }
@@ -371,15 +291,13 @@ impl<S: BuildHasher + Drop> Detector<S> {
 }
 
 // Forgets units of a block of odd locations: `first` is that of unit 0.
-fn forget_cells<S: BuildHasher>(cells: &mut Shadow<S>, first: u64, units: u64)
+fn forget_cells<S: BuildHasher + Drop>(sp_bags: &mut SpBags<S>, first: u64, units: u64)
     requires odd { first % 128 ≡ 1 }
-    ensures kept { (l : ℕ) → kept_of cells.new l ≡ (if is_unit first units l then untouched else kept_of cells.old l) }
-    ensures last_place { last_place_of cells.new ≡ last_place_of cells.old }
-    ensures least_count { least_count_of cells.new ≡ least_count_of cells.old }
+    ensures { HasForgottenUnits first units sp_bags.old sp_bags.new }
 {
     for unit in 0..64 {
         if units >> unit & 1 == 1 {
-            cells.forget(first + 2 * unit);
+            sp_bags.forget(first + 2 * unit);
         }
     }
 }

@@ -1,23 +1,11 @@
 -- How an answer ends of what names stand for.
-use Rattle.replies.proofs.Common.{false, ◌≡◌, ℕ, List, [], Option, None, Result, string_bytes, refl, sym, ap, ◌∙◌, subst, inl, inr, ⊤, ◌==◌, if◌then◌else◌, reader_inner, reader_buffer, reader_capacity, reader_remaining, prepend_known-nil, Device, Change, ◌⇝◌, IsUntouched, WasGiven, depth_of, trace_name, refused_for, message, Answers, IsWant, IsAnswered, IsConfirmed, Input, StandsFor, CannotOpen, HasNotOpened, HasAnsweredOpened, HasConfirmedOpened}
-use Rattle.std.specs.declared.io.buffered.BufReader.{BufReader}
-use Rattle.std.specs.Io.KnownBytes.{prepend_known}
-use Rattle.trace.specs.declared.faults.Fault.TheVariants.{NoMemory, Read}
+use Rattle.replies.proofs.Common.{false, ◌≡◌, ℕ, List, Option, Result, string_bytes, ap, ◌∙◌, subst, inl, inr, ⊤, Device, Change, ◌⇝◌, WasGiven, depth_of, trace_name, message, Answers, IsWant, IsAnswered, IsConfirmed, Input, StandsFor, CannotOpen, HasNotOpened, HasAnsweredOpened, HasConfirmedOpened}
+use Rattle.trace.specs.declared.faults.Fault.TheVariants.{Read}
 use Rattle.dag.specs.Bounds.{most_records}
-use Rattle.trace.proofs.Endings.{refused_for_want}
 use Rattle.words.specs.declared.asking.Question.{Question}
-use Rattle.words.specs.declared.asking.Question.TheVariants as question
 use Rattle.words.specs.declared.asking.ConfirmWords.{ConfirmWords}
-use Rattle.collect.specs.declared.bounded.ReportRefusal.TheVariants as refusals
 use Rattle.replies.specs.Files.{untried}
-use Rattle.replies.proofs.Endings.{refused, untouched}
-
--- want of memory is a want of every reading
-wants_memory : (q : Question) → IsWant q NoMemory
-wants_memory (question.Check c) = inl refl
-wants_memory (question.Pairs p) = refl
-wants_memory (question.Explain e) = refl
-wants_memory (question.Measure m) = refl
+use Rattle.replies.proofs.Endings.{untouched}
 
 -- what is said if nothing tells whether the trace was read
 read_or_not : {Unread : Type 0} {records depths : ℕ} {trace report out err : Change} {status : ℕ} → IsConfirmed Unread records depths trace report out err status → IsConfirmed ⊤ records depths trace report out err status
@@ -29,37 +17,6 @@ pub not_opened : {F E : Type 0} {Gives : List ℕ → Result F E → Type 0} {na
 not_opened out cannot two said = record { cannot = cannot; untouched = untouched out; said = said; is_two = two }
 
 module _ {F E : Type 0} (Gives : List ℕ → Result F E → Type 0) (known : Input F → Option (List ℕ)) {out err : Change} where
-  -- nothing was read of a trace, for want of memory
-  pub trace_unread : (q : Question) (trace : Input F) → StandsFor Gives (trace_name q) trace → IsUntouched out → WasGiven (message NoMemory) err → HasAnsweredOpened Gives known q out err 2
-  trace_unread q trace stands untouched given = record {
-    trace = trace;
-    stands = stands;
-    left = untried (known trace);
-    answered = refused refl refl (refused_for_want (IsWant q) most_records (depth_of q) (untried (known trace) ⇝ untried (known trace)) NoMemory (wants_memory q)) untouched given;
-  }
-
-  -- nor of a report
-  pub report_unread : (c : ConfirmWords) (trace report : Input F) → StandsFor Gives (string_bytes c.trace) trace → StandsFor Gives (string_bytes c.report) report
-      → IsUntouched out → WasGiven (message NoMemory) err → HasConfirmedOpened Gives known c out err 2
-  report_unread c trace report stands beside untouched given = record {
-    trace = trace;
-    report = report;
-    trace_stands = stands;
-    report_stands = beside;
-    trace_left = untried (known trace);
-    report_left = untried (known report);
-    confirmed = inl (
-      tt,
-      record {
-        refusal = refusals.NoMemory;
-        refused = refused_for (untried (known report) ⇝ untried (known report)) refusals.NoMemory tt;
-        untouched = untouched;
-        said = given;
-        is_two = refl;
-      },
-    );
-  }
-
   -- a trace alone was answered for
   pub answered_alone : (q : Question) (trace : Input F) (status : ℕ) (before after : Device) → StandsFor Gives (trace_name q) trace → before ≡ untried (known trace)
       → IsAnswered (IsWant q) most_records (depth_of q) (Answers q) (before ⇝ after) out err status → HasAnsweredOpened Gives known q out err status
@@ -83,13 +40,6 @@ module _ {F E : Type 0} (Gives : List ℕ → Result F E → Type 0) (known : In
         report_left = report_after;
         confirmed = subst P is' (subst Q is (read_or_not confirmed));
       }
-
--- a reader that has room to read ahead, and has read nothing ahead, has left what its own reader has
-pub nothing_ahead : {X A : Type 0} (remaining : X → Option (List ℕ)) (r : BufReader X A) (x : X) → reader_inner r ≡ x → reader_buffer r ≡ [] → reader_capacity r ≡ 65536 → reader_remaining remaining r ≡ remaining x
-nothing_ahead remaining r x inner empty capacity =
-    let P : ℕ → Type 0 = λ n. (if n == 0 then None else prepend_known (reader_buffer r) (remaining r.inner)) ≡ remaining x in
-    let known : prepend_known (reader_buffer r) (remaining r.inner) ≡ remaining x = ap (λ b. prepend_known b (remaining r.inner)) empty ∙ prepend_known-nil (remaining r.inner) ∙ ap remaining inner in
-    subst P (sym capacity) known
 
 abbrev device : Option (List ℕ) → ℕ → Device
 device bytes failures = record { bytes = bytes; failures = failures; holds_back = false }

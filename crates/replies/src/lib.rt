@@ -22,13 +22,13 @@ pub use input::Input;
 use merges::merge_from_files;
 use std::fs::File;
 use std::io;
-use std::io::{BufReader, Read};
+use std::io::Read;
 use std::sync::Wait;
 use std::thread::Threads;
 use std::time::Clock;
 use texts::say_fault;
 use trace::{Counted, Fault, Sink};
-use words::{Asked, ConfirmWords, Question, WordsFault};
+use words::{Asked, ConfirmWords, Question};
 
 /// Answers the words from the files of the system, and gives the exit status.
 pub fn answer_asked<T: Threads + Wait + Clock + Sync, W: Sink, E: Sink>(
@@ -44,9 +44,6 @@ pub fn answer_asked<T: Threads + Wait + Clock + Sync, W: Sink, E: Sink>(
     let opener = |name: &str| File::open(rt, name);
     answer_from_files(threads, rt, asked, &opener, out, err)
 }
-
-// How many bytes are read ahead of a trace, so that a long one takes few calls of the system.
-const AHEAD: usize = 1 << 16;
 
 /// Answers the words from what the names stand for: standard input, or what `opener` gives for this name. It opens
 /// the reports of `merge` one after another.
@@ -73,7 +70,7 @@ where
     }
 }
 
-// Opens the trace, and answers of it. Without memory to read ahead nothing is read.
+// Opens the trace, and answers of it.
 fn question_from_files<T, F, O, W: Sink, E: Sink>(
     threads: &T,
     rt: &HostRuntime,
@@ -94,14 +91,11 @@ where
     let Some(trace) = Input::open(rt, question.trace(), opener) else {
         return cannot_open(err);
     };
-    let Ok(ahead) = BufReader::with_capacity(alloc, AHEAD, trace) else {
-        return refuse(&WordsFault::NoMemory, out, err);
-    };
-    let mut trace = Counted::new(ahead);
+    let mut trace = Counted::new(trace);
     answer(threads, alloc, question, &mut trace, out, err)
 }
 
-// Opens the trace and then the report, and answers of both. Without memory to read ahead nothing is read.
+// Opens the trace and then the report, and answers of both.
 fn confirm_from_files<F, O, W: Sink, E: Sink>(
     rt: &HostRuntime,
     confirm: &ConfirmWords,
@@ -123,10 +117,7 @@ where
     let Some(report) = Input::open(rt, confirm.report.as_str(), opener) else {
         return cannot_open(err);
     };
-    let Ok(ahead) = BufReader::with_capacity(alloc, AHEAD, trace) else {
-        return refuse(&WordsFault::NoMemory, out, err);
-    };
-    let mut trace = Counted::new(ahead);
+    let mut trace = Counted::new(trace);
     let mut report = Counted::new(report);
     answer_confirm(alloc, confirm, &mut trace, &mut report, out, err)
 }

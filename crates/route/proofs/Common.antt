@@ -1,5 +1,5 @@
 -- The names of other crates and of the definitions that the proofs here cite.
-pub use Rattle.std.proofs.Common.{◌≡◌, ◌∙◌, ℕ, ◌<◌, refl, ap, arith, [], List, sym, ◌++◌, subst, true, ◌∷◌, length, map, ⊎_elim, false, None, Bool, append-nil, Some, Option, ◌≤◌, ◌⊎◌, inl, inr, cond, ap₂, ◌+◌, suc, ◌==◌, nat_lt, append_assoc, le-ltb, zero, lt-ltb, length-append, ◌%◌, ◌&&◌, length-set, flat_map, eq-eqb, filter, get_or, slice_index_or, vec_len, drop, true≢false, Contains, get_or-set_same, get_or-set_other, ◌-◌, take, take-append-drop, eqb-true, ◌≢◌, option_to_list, AllPairs, ltb-true, ne_eqb, mod-lt, ◌*◌, ◌^◌, set, Result, Ok, Err, OnOk, IfErr, is_ok, is_err, IsTrue, IsFalse, nat_le, take_at, vec_capacity}
+pub use Rattle.std.proofs.Common.{◌≡◌, ◌∙◌, ℕ, ◌<◌, refl, ap, arith, [], List, sym, ◌++◌, subst, true, ◌∷◌, length, map, ⊎_elim, false, None, Bool, append-nil, Some, Option, ◌≤◌, ◌⊎◌, inl, inr, cond, ap₂, ◌+◌, suc, ◌==◌, nat_lt, append_assoc, le-ltb, zero, lt-ltb, length-append, ◌%◌, ◌&&◌, length-set, flat_map, eq-eqb, filter, get_or, slice_index_or, vec_len, drop, true≢false, Contains, get_or-set_same, get_or-set_other, ◌-◌, take, take-append-drop, eqb-true, ◌≢◌, option_to_list, AllPairs, ltb-true, ne_eqb, mod-lt, ◌*◌, ◌^◌, set, Result, Ok, Err, OnOk, IfErr, is_err, nat_le, take_at, vec_capacity}
 pub use Rattle.std.proofs.Math.Nat.{two-pow-succ}
 pub use Rattle.std.proofs.lemmas.Bool.{cond-false, cond-true, cases_lt, and_left, cases_order, and_from, cases_eq, cond_both}
 pub use Rattle.std.proofs.lemmas.Bool.Decides.{nat_tests, eqb_tells}
@@ -15,7 +15,7 @@ pub use Rattle.dag.specs.declared.records.Record.{Record}
 pub use Rattle.dag.specs.declared.records.Record.TheVariants.{Spawn, Call, Return, Sync, Read, Write}
 pub use Rattle.lane.proofs.Marks.{has_mark_more, records_append, all_taken, mark_last_more, no_mark_in}
 pub use Rattle.lane.specs.Items.{has_mark, IsBeginning, records, mark_last}
-pub use Rattle.lane.specs.Lanes.{put_of, SameSender, one_more, WasFull, CountsRefusal}
+pub use Rattle.lane.specs.Lanes.{put_of, one_more, HasAdded, WasFull}
 pub use Rattle.lane.specs.declared.item.Item.{Item}
 pub use Rattle.lane.specs.declared.item.Item.TheVariants.{One, Finish}
 pub use Rattle.route.specs.Routed.{in_hand, IsRising, HasShare, IsOnSome, IsRouted, IsBeingSent, HasWholeShare, HasRouted, TakesShare}

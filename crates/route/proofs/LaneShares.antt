@@ -8,9 +8,6 @@ records-ones [] true = refl
 records-ones [] false = refl
 records-ones (x ∷ xs) b = ap (λ (l : List Placed). x ∷ l) (records-ones xs b)
 
-pub records-map : (xs : List Placed) → records (map One xs) ≡ xs
-records-map xs = ap records (sym (append-nil (map One xs))) ∙ records-ones xs false
-
 pub has_mark-ones : (xs : List Placed) (b : Bool) → has_mark (map One xs ++ cond b (Finish ∷ []) []) ≡ b
 has_mark-ones [] true = refl
 has_mark-ones [] false = refl

@@ -1,5 +1,5 @@
 -- Lists of senders after one of them has put an item.
-use Rattle.route.proofs.Common.{◌≡◌, ℕ, ◌+◌, ◌<◌, ◌⊎◌, ⊎_elim, subst, arith, slice_index_or, Bool, true, false, List, [], ◌∷◌, ◌++◌, length, get_or, set, map, sym, refl, ap, ◌∙◌, ◌≤◌, Result, Ok, Err, OnOk, IfErr, is_ok, is_err, IsTrue, IsFalse, vec_len, cases_order, map-set, get_or-map, get_or-set_same, get_or-set_other, length-map, Item, One, Finish, SameSender, put_of, one_more, WasFull, CountsRefusal, Placed, lanes, puts, shown, capacities, rooms, refusals, with_refusal, put_on, with_put}
+use Rattle.route.proofs.Common.{◌≡◌, ℕ, ◌+◌, ◌<◌, ◌⊎◌, ⊎_elim, subst, arith, slice_index_or, Bool, true, false, List, [], ◌∷◌, ◌++◌, length, get_or, set, map, sym, refl, ap, ◌∙◌, ◌≤◌, Result, Ok, Err, OnOk, IfErr, is_err, vec_len, cases_order, map-set, get_or-map, get_or-set_same, get_or-set_other, length-map, length-set, Item, One, put_of, one_more, HasAdded, WasFull, Placed, lanes, puts, shown, capacities, rooms, refusals, with_refusal, put_on, with_put}
 use Rattle.std.specs.Prelude.{Vec}
 use Rattle.std.specs.declared.alloc.Global.{Global}
 use Rattle.std.proofs.Math.Seq.{map-set_same}
@@ -59,13 +59,17 @@ pub record Put (ss ts : List (Sender Placed)) (k : ℕ) (x : Item Placed) : Type
   pub holds : capacities ts ≡ capacities ss
   pub more : puts ts ≡ with_put (puts ss) k x
   pub counts : refusals ts ≡ refusals ss
+  pub among : k < length (puts ss)
+  pub as_many : length (puts ts) ≡ length (puts ss)
 
-pub has_put : (ss : List (Sender Placed)) (k : ℕ) (s t : Sender Placed) (x : Item Placed) → k < length (puts ss) → s ≡ get_or ss k s → SameSender s t → put_of t ≡ put_of s ++ x ∷ [] → t.refusals ≡ s.refusals → Put ss (set ss k t) k x
-has_put ss k s t x among at lane put counts = record {
-  on = map-set_like (λ s. s.lane) ss k s t at lane.0;
-  holds = map-set_like (λ s. s.capacity) ss k s t at lane.1;
-  more = puts-set ss k s t x (sender_at ss k among) at put;
-  counts = map-set_like (λ s. s.refusals) ss k s t at counts;
+pub has_put : (ss : List (Sender Placed)) (k : ℕ) (s t : Sender Placed) (x : Item Placed) → k < length (puts ss) → s ≡ get_or ss k s → HasAdded (x ∷ []) s t → Put ss (set ss k t) k x
+has_put ss k s t x among at put = record {
+  on = map-set_like (λ s. s.lane) ss k s t at put.lane.0;
+  holds = map-set_like (λ s. s.capacity) ss k s t at put.lane.1;
+  more = puts-set ss k s t x (sender_at ss k among) at put.put;
+  counts = map-set_like (λ s. s.refusals) ss k s t at put.refusals;
+  among = among;
+  as_many = ap length (map-set put_of ss k t) ∙ length-set (puts ss) k (put_of t);
 }
 
 -- after a refusal
@@ -77,37 +81,29 @@ pub record Refused (ss ts : List (Sender Placed)) (k : ℕ) : Type 0 where
   pub knew : slice_index_or (rooms ss) k 0 ≡ 0
   pub knows : slice_index_or (rooms ts) k 0 ≡ 0
   pub full : slice_index_or (capacities ss) k 0 ≤ length (put_on (puts ss) k)
+  pub among : k < length (puts ss)
 
-pub has_refused : (ss : List (Sender Placed)) (k : ℕ) (s t : Sender Placed) → k < length (puts ss) → s ≡ get_or ss k s → SameSender s t → WasFull s t → (s.room ≡ 0) × (t.room ≡ 0)
-    → t.refusals ≡ one_more s.refusals → Refused ss (set ss k t) k
-has_refused ss k s t among at lane full none counts = record {
-  on = map-set_like (λ s. s.lane) ss k s t at lane.0;
-  holds = map-set_like (λ s. s.capacity) ss k s t at lane.1;
-  same = map-set_like put_of ss k s t at full.0;
-  counts = map-set (λ s. s.refusals) ss k t ∙ ap (λ (n : ℕ). set (refusals ss) k n) (counts ∙ ap one_more (ap (λ s. s.refusals) at ∙ sym (get_or-map (λ s. s.refusals) ss k s 0 (sender_at ss k among))));
-  knew = get_or-map (λ s. s.room) ss k s 0 (sender_at ss k among) ∙ ap (λ s. s.room) (sym at) ∙ none.0;
-  knows = room_set ss k t (sender_at ss k among) ∙ none.1;
-  full = omega (arith, full.1.0, capacity_at ss k s (sender_at ss k among) at, ap length (put_at ss k s among at));
-}
+pub has_refused : (ss : List (Sender Placed)) (k : ℕ) (s t : Sender Placed) → k < length (puts ss) → s ≡ get_or ss k s → WasFull s t → Refused ss (set ss k t) k
+has_refused ss k s t among at full =
+    let no = full.refused in
+    record {
+      on = map-set_like (λ s. s.lane) ss k s t at no.lane.0;
+      holds = map-set_like (λ s. s.capacity) ss k s t at no.lane.1;
+      same = map-set_like put_of ss k s t at no.put;
+      counts = map-set (λ s. s.refusals) ss k t ∙ ap (λ (n : ℕ). set (refusals ss) k n) (no.refusals ∙ ap one_more (ap (λ s. s.refusals) at ∙ sym (get_or-map (λ s. s.refusals) ss k s 0 (sender_at ss k among))));
+      knew = get_or-map (λ s. s.room) ss k s 0 (sender_at ss k among) ∙ ap (λ s. s.room) (sym at) ∙ full.knew_of_none;
+      knows = room_set ss k t (sender_at ss k among) ∙ full.knows_of_none;
+      full = omega (arith, full.was, capacity_at ss k s (sender_at ss k among) at, ap length (put_at ss k s among at));
+      among = among;
+    }
 
--- the same of a sender's answer to a put
-pub put_ok : (ss : List (Sender Placed)) (k : ℕ) (s t : Sender Placed) (x : Placed) (r : Result (Unit {0}) Placed) (b : Bool) → k < length (puts ss) → s ≡ get_or ss k s → SameSender s t → b ≡ is_err r → b ≡ false
-    → OnOk r (put_of t ≡ put_of s ++ One x ∷ []) → CountsRefusal (is_ok r) s t → Put ss (set ss k t) k (One x)
-put_ok ss k s t x (Ok v) b among at lane is err put counts = has_put ss k s t (One x) among at lane put counts
-put_ok ss k s t x (Err v) b among at lane is err put counts = absurd (cc)
+-- the same of a sender's answer to a put, on one of n lanes
+pub put_ok : (ss : List (Sender Placed)) (k n : ℕ) (s t : Sender Placed) (x : Placed) (r : Result (Unit {0}) Placed) (b : Bool) → k < n → n ≡ length (puts ss) → s ≡ get_or ss k s → b ≡ is_err r → b ≡ false
+    → OnOk r (HasAdded (One x ∷ []) s t) → Put ss (set ss k t) k (One x)
+put_ok ss k n s t x (Ok v) b among all at is err put = has_put ss k s t (One x) (omega (arith, among, all)) at put
+put_ok ss k n s t x (Err v) b among all at is err put = absurd (cc)
 
-pub put_err : (ss : List (Sender Placed)) (k : ℕ) (s t : Sender Placed) (x : Placed) (r : Result (Unit {0}) Placed) (b : Bool) → k < length (puts ss) → s ≡ get_or ss k s → SameSender s t → b ≡ is_err r → b ≡ true
-    → IfErr r (λ y. (y ≡ x) × WasFull s t) → IfErr r (λ y. (s.room ≡ 0) × (t.room ≡ 0)) → CountsRefusal (is_ok r) s t → Refused ss (set ss k t) k
-put_err ss k s t x (Ok v) b among at lane is err full none counts = absurd (cc)
-put_err ss k s t x (Err v) b among at lane is err full none counts = has_refused ss k s t among at lane full.1 none counts
-
--- and to the mark
-pub mark_ok : (ss : List (Sender Placed)) (k : ℕ) (s t : Sender Placed) (b : Bool) → k < length (puts ss) → s ≡ get_or ss k s → SameSender s t → b ≡ true
-    → (IsTrue b → put_of t ≡ put_of s ++ Finish ∷ []) → CountsRefusal b s t → Put ss (set ss k t) k Finish
-mark_ok ss k s t true among at lane is put counts = has_put ss k s t Finish among at lane (put refl) counts
-mark_ok ss k s t false among at lane is put counts = absurd (cc)
-
-pub mark_err : (ss : List (Sender Placed)) (k : ℕ) (s t : Sender Placed) (b : Bool) → k < length (puts ss) → s ≡ get_or ss k s → SameSender s t → b ≡ false
-    → (IsFalse b → WasFull s t) → (IsFalse b → (s.room ≡ 0) × (t.room ≡ 0)) → CountsRefusal b s t → Refused ss (set ss k t) k
-mark_err ss k s t true among at lane is full none counts = absurd (cc)
-mark_err ss k s t false among at lane is full none counts = has_refused ss k s t among at lane (full refl) (none refl) counts
+pub put_err : (ss : List (Sender Placed)) (k n : ℕ) (s t : Sender Placed) (x : Placed) (r : Result (Unit {0}) Placed) (b : Bool) → k < n → n ≡ length (puts ss) → s ≡ get_or ss k s → b ≡ is_err r → b ≡ true
+    → IfErr r (λ y. (y ≡ x) × WasFull s t) → Refused ss (set ss k t) k
+put_err ss k n s t x (Ok v) b among all at is err full = absurd (cc)
+put_err ss k n s t x (Err v) b among all at is err full = has_refused ss k s t (omega (arith, among, all)) at full.1

@@ -1,5 +1,5 @@
 -- The names of other crates and of the definitions that the proofs here cite.
-pub use Rattle.std.proofs.Common.{◌≡◌, ℕ, List, refl, subst, sym, ap, ◌∙◌, [], ◌∷◌, arith, true, false, Option, Some, ◌<◌, ◌≤◌, Bool, None, ⊎_elim, cond, ◌++◌, map, inl, option_to_list, ◌+◌, length, ◌==◌, ◌≢◌, suc, inr, slice_get, take, ◌↔◌, ◌%◌, filter, ◌*◌, zero, ◌⊎◌, eqb-true, eq-eqb, ap₂, ◌/◌, nat_eq, unwrap_or, ne_eqb, div-add-mod', ltb, ltb-true, ltb-false, ◌||◌, is_some, Contains, if◌then◌else◌, ◌&&◌, option_map, position, get_or, mod-lt, append-nil, append_assoc, Result, Ok, Err, OnOk, IfOk, take_all, lt-ltb, le-ltb, mul-lt-mul_of_pos_right, mul-le-mul_right, rules, slice_set, slice_index_or}
+pub use Rattle.std.proofs.Common.{◌≡◌, ℕ, List, refl, subst, sym, ap, ◌∙◌, [], ◌∷◌, arith, true, false, Option, Some, ◌<◌, ◌≤◌, Bool, None, ⊎_elim, cond, ◌++◌, map, inl, option_to_list, ◌+◌, length, ◌==◌, ◌≢◌, suc, inr, slice_get, take, ◌↔◌, ◌%◌, filter, ◌*◌, zero, ◌⊎◌, eqb-true, eq-eqb, ap₂, ◌/◌, nat_eq, ne_eqb, div-add-mod', ltb, ltb-true, ltb-false, ◌||◌, is_some, Contains, if◌then◌else◌, ◌&&◌, option_map, position, get_or, mod-lt, append-nil, append_assoc, Result, Ok, Err, OnOk, IfOk, take_all, lt-ltb, le-ltb, mul-lt-mul_of_pos_right, mul-le-mul_right, rules, slice_index_or, ◌^◌}
 pub use Rattle.std.proofs.lemmas.Bool.{cases_eq, cond-true, cond-false, cases_Bool, cond_both, cases_lt, or_left}
 pub use Rattle.std.proofs.lemmas.List.{map-append, get_or_default}
 pub use Rattle.std.proofs.lemmas.Nat.{div-mul-add, mod-mul-add}
@@ -25,10 +25,12 @@ pub use Rattle.dag.specs.declared.records.Kind.TheVariants.{Read, Write}
 pub use Rattle.dag.specs.declared.records.Placed.{Placed}
 pub use Rattle.dag.specs.declared.records.Record.{Record}
 pub use Rattle.bags.specs.Procedures.{Procedures, event, Active, in_p, current, procedure_at, bags_from, bags_after, after_return}
-pub use Rattle.shadow.specs.Before.{IsCellBefore, IsNameBefore}
+pub use Rattle.shadow.specs.Before.{IsCellBefore, IsNameBefore, AreBefore}
 pub use Rattle.shadow.specs.Cells.{Cell, touched, race_at, race_with, untouched, rival, Name, parallel_access, name_of, reader_after}
 pub use Rattle.shadow.specs.Found.{found, State, after_access, after_record, race_of, state_at_start, found_from, with_cell, state_after, put_in, by_location, verdict, state_from}
-pub use Rattle.shadow.specs.Pages.{Page, page_numbered, cell_of, page_of, seat_of, IsPageAt, cell_at, HasPut, no_page, no_names, cell_in, HasSameCells, shards_of, apart_of, own_page_of}
-pub use Rattle.shadow.specs.Shadow.{Shadow, kept_of, HaveSeen, IsShadowBefore}
-pub use Rattle.shadow.specs.Touches.{HasTouched, MayTouch}
+pub use Rattle.shadow.specs.Pages.{IsPageAt, cell_in, HasSameCells, HasSetPage}
+pub use Rattle.shadow.specs.Seats.{Page, cell_of, page_of, seat_of, cell_at, no_names, shards_of, apart_of, own_page_of}
+pub use Rattle.shadow.specs.Shadow.{Shadow, kept_of}
+pub use Rattle.shadow.specs.SpBags.{SpBags, state_of, HasSeen, HasApplied, is_root_return}
+pub use Rattle.shadow.specs.Touches.{HasTouched}
 pub use Rattle.indexmap.proofs.CallerLemmas.{insert_entry-new, updates-with_value_at}

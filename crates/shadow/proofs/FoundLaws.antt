@@ -19,7 +19,7 @@ state_after-push u p = state_from-append state_at_start u (p ∷ [])
 pub found-push : (u : List Placed) (p : Placed) → found (u ++ p ∷ []) ≡ found u ++ option_to_list (race_of (state_after u) p.place p.what)
 found-push u p = found_from-append state_at_start u (p ∷ []) ∙ ap (λ (z : List RaceAt). found u ++ z) (append-nil _)
 
-bags-after_record : (s : State) (place : ℕ) (r : Record) → (after_record s place r).bags ≡ event s.bags r
+pub bags-after_record : (s : State) (place : ℕ) (r : Record) → (after_record s place r).bags ≡ event s.bags r
 bags-after_record s place records.Spawn = refl
 bags-after_record s place records.Call = refl
 bags-after_record s place records.Return = refl

@@ -1,5 +1,6 @@
 pub mod Common
 pub mod PageLemmas
+pub mod SeatLemmas
 pub mod CellLemmas
 pub mod FoundLaws
 pub mod StateLemmas

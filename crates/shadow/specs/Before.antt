@@ -17,6 +17,10 @@ pub record IsCellBefore (place count : ℕ) (c : Cell) : Type 0 where
   pub writer : ForSome c.writer (IsNameBefore place count)
   pub reader : ForSome c.reader (IsNameBefore place count)
 
+-- what is kept of each location was kept before a place
+abbrev pub AreBefore : ℕ → ℕ → (ℕ → Cell) → Type 0
+AreBefore place count kept = (l : ℕ) → IsCellBefore place count (kept l)
+
 -- an earlier access that makes a race with one of this kind at this place, if the two are parallel
 pub record CanRace (kind : Kind) (place : ℕ) (first : Access) : Type 0 where
   pub from_one : 1 ≤ first.place

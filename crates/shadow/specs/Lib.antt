@@ -1,8 +1,10 @@
 pub mod Before
 pub mod Pages
+pub mod Seats
 pub mod Cells
 pub mod Found
 pub mod Shadow
+pub mod SpBags
 pub mod Names
 pub use Rattle.bags.specs.Procedures
 pub use Rattle.dag.specs.Accesses

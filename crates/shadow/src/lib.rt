@@ -2,10 +2,13 @@
 #![tactic(auto)]
 
 mod names;
+mod page;
 mod pages;
-mod rules;
+mod recent;
 mod shadow;
+mod sp_bags;
 mod spot;
 
-pub use rules::apply_rule;
+pub use pages::{CellPage, Guesses, Pages};
 pub use shadow::Shadow;
+pub use sp_bags::SpBags;

@@ -3,7 +3,7 @@ ghost use Rattle.std.specs.Prelude.{◌≡◌, ◌+◌, ◌<◌, ◌≤◌, Bool
 ghost use Rattle.std.specs.Option.{ForSome};
 ghost use Rattle.dag.specs.Bounds.{most_records};
 ghost use Rattle.shadow.specs.Cells.{race_at, race_with, touched, rival, stands_in_p, reader_after, name_of};
-ghost use Rattle.shadow.specs.Pages.{no_names, cell_with};
+ghost use Rattle.shadow.specs.Seats.{no_names, cell_with};
 ghost use Rattle.shadow.specs.Before.{IsNameBefore, IsCellBefore, CanRace, Executes};
 ghost use Rattle.shadow.specs.Touches.{MayTouch, HasTouched};
 
@@ -87,7 +87,7 @@ pub struct Names {
 }
 
 impl Model for Names {
-    ghost use Rattle.shadow.specs.Pages.{Names};
+    ghost use Rattle.shadow.specs.Seats.{Names};
 
     ghost Value = { Names };
 

@@ -1,192 +1,156 @@
-//! The touched pages, by their numbers. A page has what is kept of eight locations.
-ghost use Rattle.std.specs.Prelude.{◌≡◌, ◌≢◌, ◌<◌, ℕ, [], IfSome, IfOk, IsTrue, OnErr, slice_index_or};
+//! Pages by their numbers. What is kept of a location stands in a seat of a page.
+ghost use Rattle.std.specs.Prelude.{◌≡◌, ℕ, [], Bool, Option, None, Some, IfSome, IfOk, IsTrue, OnErr, nat_eq};
+ghost use Rattle.std.specs.Prelude.{if◌then◌else◌};
 ghost use Rattle.std.specs.Borrow.{sem};
+ghost use Rattle.std.specs.Map.{lookup};
 ghost use Rattle.indexmap.specs.IndexMap.{set_value_at};
-ghost use Rattle.shadow.specs.Cells.{untouched};
-ghost use Rattle.shadow.specs.Pages.{Page, no_names, no_page, page_numbered, cell_at, cell_in};
-ghost use Rattle.shadow.specs.Pages.{IsPageAt, IsLookedUp, HasPut, HasSameCells};
-ghost use Rattle.shadow.specs.Lending.{lends_page, HasSetPage};
+ghost use Rattle.shadow.specs.Cells.{Cell, untouched};
+ghost use Rattle.shadow.specs.Pages.{cell_in, IsPageAt, IsLookedUp, ForgetsSeats, HasSameCells, HasSetPage};
 
-use crate::names::Names;
-use crate::spot::{Layout, Spot, slot_before};
 use dag::NoMemory;
 use indexmap::IndexMap;
 use std::alloc::Global;
 use std::hash::BuildHasher;
 use std::marker::Model;
 
-/// What is kept of eight locations.
-#[derive(Drop)]
-pub struct Page {
-    pub names: [Names; 8],
-    /// Whether the race of each location was reported. Few accesses look at it, so it stands apart from the names.
-    pub reported: [bool; 8],
-}
+/// A page: what is kept of some locations.
+pub trait CellPage: Drop {
+    /// What names some seats.
+    type Seats: Copy;
 
-impl Model for Page {
-    ghost use Rattle.shadow.specs.Pages.{Page};
+    // What is kept in a seat of a page, or if there is no page.
+    ghost cell: { Option Self → ℕ → Cell };
 
-    ghost Value = { Page };
+    // Whether a seat is one of these.
+    ghost has: { Self.Seats → ℕ → Bool };
 
-    ghost view = { λ p. record { names = p.names; reported = p.reported } };
-}
+    /// A page of locations before their first access.
+    fn untouched(alloc: Global) -> Self
+        ensures { (seat : ℕ) → cell (Some result) seat ≡ untouched };
 
-impl Page {
-    /// A page of eight locations before their first access.
-    fn untouched() -> Page
-        ensures { (seat : ℕ) → cell_at result seat ≡ untouched }
-    {
-        Page {
-            names: [
-                Names::none(),
-                Names::none(),
-                Names::none(),
-                Names::none(),
-                Names::none(),
-                Names::none(),
-                Names::none(),
-                Names::none(),
-            ],
-            reported: [false; 8],
-        }
-    }
-
-    /// The location in this seat is as it was before its first access.
-    fn forget_seat(&mut self, seat: usize)
-        requires within { seat < 8 }
-        ensures forgotten { cell_at self.new seat ≡ untouched }
-        ensures others { (k : ℕ) → k ≢ seat → cell_at self.new k ≡ cell_at self.old k }
-    {
-        self.names[seat] = Names::none();
-        self.reported[seat] = false;
-    }
+    /// The locations in these seats are as they were before their first access.
+    fn forget(&mut self, seats: Self::Seats)
+        ensures { (seat : ℕ) → cell (Some self.new) seat
+            ≡ (if has seats seat then untouched else cell (Some self.old) seat) };
 
     /// Whether all its locations are as they were before their first access.
     fn is_untouched(&self) -> bool
-        ensures { IsTrue result → (seat : ℕ) → cell_at self.now seat ≡ untouched }
-    {
-        are_none(&self.names) && !self.reported.contains(&true)
-    }
+        ensures { IsTrue result → (seat : ℕ) → cell (Some self.now) seat ≡ untouched };
+
+    ghost none: { (seat : ℕ) → cell None seat ≡ untouched };
 }
 
-// Whether no names are kept.
-fn are_none(names: &[Names]) -> bool
-    ensures { IsTrue result → (seat : ℕ) → slice_index_or names.now seat no_names ≡ no_names }
-{
-    for names in names {
-        if !names.are_none() {
-            return false;
-        }
-    }
-    true
+/// Guesses at which indices pages stand. None of them is trusted.
+pub trait Guesses: Drop {
+    /// What else a page is guessed by than its number.
+    type Hint: Copy;
+
+    /// The likeliest index.
+    fn likeliest(&self, hint: Self::Hint) -> usize;
+
+    /// Other indices, by their likelihood.
+    fn others(&self, page: u64, hint: Self::Hint) -> [usize; 4];
+
+    /// The page was found at this index.
+    fn note(&mut self, page: u64, hint: Self::Hint, index: usize);
 }
 
-/// The number of remembered indices.
-const SLOTS: usize = 1024;
-
-/// Pages by their numbers. They remember where late look-ups found a page, and the next look-up tries this index
-/// first.
+/// Pages by their numbers.
 #[derive(Drop)]
-pub struct Pages<S: BuildHasher> {
-    map: IndexMap<u64, Page, S>,
-    // Indices in the map, one for all numbers of a slot. None of them is trusted, so 32 bits of each do.
-    recent: [u32; SLOTS],
+pub struct Pages<P: CellPage, G: Guesses, S: BuildHasher> {
+    alloc: Global,
+    map: IndexMap<u64, P, S>,
+    guesses: G,
 }
 
-impl<S: BuildHasher> Model for Pages<S> {
+impl<P: CellPage, G: Guesses, S: BuildHasher> Model for Pages<P, G, S> {
     ghost use Rattle.std.specs.Prelude.{ℕ, List};
-    ghost use Rattle.shadow.specs.Pages.{Page};
 
-    ghost Value = { List (ℕ × Page) };
+    ghost Value = { List (ℕ × P) };
 
     ghost view = { λ b. b.map.entries };
 }
 
-impl<S: BuildHasher> Pages<S> {
+impl<P: CellPage, G: Guesses, S: BuildHasher> Pages<P, G, S> {
+    ghost use Rattle.shadow.specs.Lending.{lends_page};
+
     /// No page. It takes no memory.
-    pub fn with_hasher(alloc: Global, hasher: S) -> Pages<S>
+    pub fn new(alloc: Global, guesses: G, hasher: S) -> Pages<P, G, S>
         ensures { result ≡ [] }
     {
         Pages {
+            alloc,
             map: IndexMap::with_hasher(alloc, hasher),
-            recent: [0; SLOTS],
+            guesses,
         }
     }
 
-    /// The index of the page of this spot. If there is no such page, an untouched one is added.
+    /// The index of the page of this number. If there is no such page, an untouched one is added.
     ///
     /// An error leaves all as it was.
     #[inline(always)]
-    pub fn find(&mut self, spot: Spot, layout: Layout) -> Result<usize, NoMemory>
-        ensures there { IfOk result (λ at. IsPageAt self.new at spot.page) }
-        ensures kept { HasSameCells self.old self.new }
+    pub fn find(&mut self, page: u64, hint: G::Hint) -> Result<usize, NoMemory>
+        ensures there { IfOk result (λ at. IsPageAt self.new at page) }
+        ensures kept { HasSameCells P.cell self.old self.new }
         ensures err { OnErr result (self.new ≡ self.old) }
-        ensures not_there { OnErr result (page_numbered self.old spot.page ≡ no_page) }
+        ensures not_there { OnErr result (lookup (nat_eq page) self.old ≡ None) }
     {
-        match self.recent_index(spot) {
+        match self.likely_index(page, hint) {
             Some(index) => Ok(index),
-            None => self.find_or_add(spot, layout),
+            None => self.find_or_add(page, hint),
         }
     }
 
-    // The index where a late look-up found the page of this spot, if it stands there now.
+    // The likeliest index of the page, if it stands there.
     #[inline(always)]
-    fn recent_index(&self, spot: Spot) -> Option<usize>
-        ensures { IfSome result (λ at. IsPageAt self.now at spot.page) }
+    fn likely_index(&self, page: u64, hint: G::Hint) -> Option<usize>
+        ensures { IfSome result (λ at. IsPageAt self.now at page) }
     {
-        let index = self.recent[spot.slot] as usize;
-        if self.is_at(index, spot.page) {
+        let index = self.guesses.likeliest(hint);
+        if self.is_at(index, page) {
             return Some(index);
         }
         None
     }
 
-    // The same, if the page isn't at the remembered index. It is remembered from here on.
+    // The same, if the page isn't at the likeliest index.
     #[inline(never)]
-    fn find_or_add(&mut self, spot: Spot, layout: Layout) -> Result<usize, NoMemory>
-        ensures there { IfOk result (λ at. IsPageAt self.new at spot.page) }
-        ensures kept { HasSameCells self.old self.new }
+    fn find_or_add(&mut self, page: u64, hint: G::Hint) -> Result<usize, NoMemory>
+        ensures there { IfOk result (λ at. IsPageAt self.new at page) }
+        ensures kept { HasSameCells P.cell self.old self.new }
         ensures err { OnErr result (self.new ≡ self.old) }
-        ensures not_there { OnErr result (page_numbered self.old spot.page ≡ no_page) }
+        ensures not_there { OnErr result (lookup (nat_eq page) self.old ≡ None) }
     {
-        if let Some(index) = self.look_up(spot, layout) {
-            return Ok(index);
-        }
-        let index = self.map.len();
-        self.map.insert(spot.page, Page::untouched())?;
-        self.recent[spot.slot] = remembered(index);
+        let index = match self.look_up(page, hint) {
+            Some(index) => index,
+            None => self.add(page)?,
+        };
+        self.guesses.note(page, hint, index);
         Ok(index)
     }
 
-    // Where the page stands, if it is there. It is remembered.
-    fn look_up(&mut self, spot: Spot, layout: Layout) -> Option<usize>
-        ensures same { self.new ≡ self.old }
-        ensures found { IsLookedUp self.old spot.page result }
+    fn add(&mut self, page: u64) -> Result<usize, NoMemory>
+        requires { lookup (nat_eq page) self.old ≡ None }
+        ensures there { IfOk result (λ at. IsPageAt self.new at page) }
+        ensures kept { HasSameCells P.cell self.old self.new }
+        ensures err { OnErr result (self.new ≡ self.old) }
     {
-        let neighbour = slot_before(spot.page, layout);
-        let index = match self.behind_its_neighbour(neighbour, spot.page) {
-            Some(near) => near,
-            None => self.map.get_index_of(&spot.page)?,
-        };
-        self.recent[spot.slot] = remembered(index);
-        Some(index)
+        let index = self.map.len();
+        self.map.insert(page, P::untouched(self.alloc))?;
+        Ok(index)
     }
 
-    // The page's index, if it stands 1, 2, 4 or 8 behind the last one found of the neighbour's slot. A program that
-    // goes through an array adds its pages one after another, or by turns with those of the locations between, and
-    // those of another array that it goes through at the same time.
-    fn behind_its_neighbour(&self, neighbour: usize, page: u64) -> Option<usize>
-        requires { neighbour < 1024 }
-        ensures { IfSome result (λ i. IsPageAt self.now i page) }
+    // Where the page stands, if it is there.
+    fn look_up(&self, page: u64, hint: G::Hint) -> Option<usize>
+        ensures { IsLookedUp self.now page result }
     {
-        let before = self.recent[neighbour] as usize;
-        for step in [1, 2, 4, 8] {
-            let near = before.wrapping_add(step);
-            if self.is_at(near, page) {
-                return Some(near);
+        for guess in self.guesses.others(page, hint) {
+            if self.is_at(guess, page) {
+                return Some(guess);
             }
         }
-        None
+        let index = self.map.get_index_of(&page)?;
+        Some(index)
     }
 
     // Whether the page of this number is at this index.
@@ -202,80 +166,93 @@ impl<S: BuildHasher> Pages<S> {
 
     /// The page of this number, which is at this index, to write. All other pages stay as they are.
     #[inline(always)]
-    pub fn page_mut(&mut self, at: usize, page: u64) -> &mut Page
+    pub fn page_mut(&mut self, at: usize, page: u64) -> &mut P
         requires there { IsPageAt self.old at page }
         ensures* writes_back { sem 𝓛
-            (lends_page S.row S.Hasher.row S.BuildHasher S.Hasher.Hasher self.entry at result) }
-        ensures value { result.now ≡ page_numbered self.old page }
-        ensures set { (left : Page) → HasSetPage page left self.old (set_value_at self.old at left) }
+            (lends_page P.row G.row S.row P.Seats.row G.Hint.row S.Hasher.row P.CellPage S.BuildHasher S.Hasher.Hasher
+            self.entry at result) }
+        ensures value { Some result.now ≡ lookup (nat_eq page) self.old }
+        ensures set { (left : P) → HasSetPage page left self.old (set_value_at self.old at left) }
     {
         // The proof also needs what `len` says of the map: no number is there twice.
         prove!(at < self.map.len());
         &mut self.map[at]
     }
 
-    /// The location of this spot is as it was before its first access. A page whose locations all are goes.
-    pub fn forget(&mut self, spot: Spot, layout: Layout)
-        ensures { HasPut spot.page spot.seat untouched self.old self.new }
+    /// The locations in these seats of the page are as they were before their first access. A page whose locations
+    /// all are goes.
+    pub fn forget(&mut self, page: u64, hint: G::Hint, seats: P::Seats)
+        ensures { ForgetsSeats P.cell page (P.has seats) self.old self.new }
     {
-        if let Some(at) = self.index_of(spot, layout) {
-            if self.forget_at(at, spot) {
-                self.drop_untouched(spot.page);
+        if let Some(at) = self.index_of(page, hint) {
+            if self.forget_at(at, page, seats) {
+                self.drop_untouched(page);
             }
         }
     }
 
-    // Where the page of this spot stands, if it is there.
-    fn index_of(&mut self, spot: Spot, layout: Layout) -> Option<usize>
+    // Where the page stands, if it is there.
+    fn index_of(&mut self, page: u64, hint: G::Hint) -> Option<usize>
         ensures same { self.new ≡ self.old }
-        ensures found { IsLookedUp self.old spot.page result }
+        ensures found { IsLookedUp self.old page result }
     {
-        match self.recent_index(spot) {
+        match self.likely_index(page, hint) {
             Some(index) => Some(index),
-            None => self.look_up(spot, layout),
+            None => {
+                let index = self.look_up(page, hint)?;
+                self.guesses.note(page, hint, index);
+                Some(index)
+            }
         }
     }
 
-    // The location of this spot, whose page is at this index, is as it was before its first access. Whether all
-    // locations of the page are.
-    fn forget_at(&mut self, at: usize, spot: Spot) -> bool
-        requires there { IsPageAt self.old at spot.page }
-        ensures put { HasPut spot.page spot.seat untouched self.old self.new }
-        ensures empty { IsTrue result → (k : ℕ) → cell_in self.new spot.page k ≡ untouched }
+    // The locations in these seats of the page, which is at this index, are as they were before their first access.
+    // Whether all locations of the page are.
+    fn forget_at(&mut self, at: usize, page: u64, seats: P::Seats) -> bool
+        requires there { IsPageAt self.old at page }
+        ensures forgotten { ForgetsSeats P.cell page (P.has seats) self.old self.new }
+        ensures empty { IsTrue result → (k : ℕ) → cell_in P.cell self.new page k ≡ untouched }
     {
-        let page = self.page_mut(at, spot.page);
-        page.forget_seat(spot.seat);
+        let page = self.page_mut(at, page);
+        page.forget(seats);
         page.is_untouched()
     }
 
     // Drops the page of this number, whose locations are untouched.
     fn drop_untouched(&mut self, page: u64)
-        requires empty { (k : ℕ) → cell_in self.old page k ≡ untouched }
-        ensures { HasSameCells self.old self.new }
+        requires empty { (k : ℕ) → cell_in P.cell self.old page k ≡ untouched }
+        ensures { HasSameCells P.cell self.old self.new }
     {
         self.map.swap_remove(&page);
     }
 }
 
-fn remembered(index: usize) -> u32 {
-    (index % (1 << 32)) as u32
-}
-
 #[cfg(test)]
 mod tests {
-    use super::*;
-    use crate::spot::spot_of;
+    use super::Pages;
+    use crate::page::Page;
+    use crate::recent::Recent;
+    use crate::spot::{Layout, spot_of};
+    use std::alloc::Global;
     use std::hash::{BuildHasherDefault, FoldHasher};
     use std::test::Fail;
 
+    /// No page.
+    fn no_pages(
+        alloc: Global,
+        layout: Layout,
+    ) -> Pages<Page, Recent, BuildHasherDefault<FoldHasher>> {
+        Pages::new(alloc, Recent::new(layout), BuildHasherDefault::default())
+    }
+
     /// How many pages 10,000 consecutive locations of the third of `shards` shards take.
     fn pages_taken(alloc: Global, shards: u64) -> Result<usize, Fail> {
-        let mut pages = Pages::with_hasher(alloc, BuildHasherDefault::<FoldHasher>::default());
+        let layout = Layout::Shards(shards);
+        let mut pages = no_pages(alloc, layout);
         for number in 0..10_000u64 {
             if 1 <= shards && shards <= 64 {
-                let layout = Layout::Shards(shards);
                 let spot = spot_of(number.wrapping_mul(shards).wrapping_add(2), layout);
-                let _ = pages.find(spot, layout)?;
+                let _ = pages.find(spot.page, spot.slot)?;
             }
         }
         Ok(pages.map.len())
@@ -292,10 +269,10 @@ mod tests {
 
     #[test]
     fn pages_of_a_program_are_full(rt: HostRuntime) -> Result<(), Fail> {
-        let mut pages = Pages::with_hasher(rt.alloc(), BuildHasherDefault::<FoldHasher>::default());
+        let mut pages = no_pages(rt.alloc(), Layout::Program);
         for unit in 0..10_000u64 {
             let spot = spot_of(2 * unit, Layout::Program);
-            let _ = pages.find(spot, Layout::Program)?;
+            let _ = pages.find(spot.page, spot.slot)?;
         }
         assert_eq!(rt; pages.map.len(), 1250);
         Ok(())

@@ -3,9 +3,11 @@ ghost use Rattle.std.specs.Prelude.{◌≡◌, ℕ, ◌<◌, ◌≤◌, IfOk, On
 ghost use Rattle.dag.specs.Bounds.{most_records};
 ghost use Rattle.shadow.specs.Cells.{untouched, race_at, touched};
 ghost use Rattle.shadow.specs.Found.{with_cell};
-ghost use Rattle.shadow.specs.Pages.{shards_of};
+ghost use Rattle.shadow.specs.Seats.{shards_of};
 
+use crate::page::Page;
 use crate::pages::Pages;
+use crate::recent::Recent;
 use crate::spot::{Layout, spot_of};
 use bags::Bags;
 use dag::{Kind, NoMemory, Race};
@@ -17,30 +19,27 @@ use std::marker::Model;
 #[derive(Drop)]
 pub struct Shadow<S: BuildHasher> {
     layout: Layout,
-    pages: Pages<S>,
+    pages: Pages<Page, Recent, S>,
     last_place: u64,
     least_count: u64,
     ghost shards_within: { 1 ≤ shards_of layout },
 }
 
 impl<S: BuildHasher> Model for Shadow<S> {
-    ghost use Rattle.shadow.specs.Shadow.{Shadow, IsShadowBefore};
+    ghost use Rattle.std.specs.Prelude.{◌+◌};
+    ghost use Rattle.shadow.specs.Before.{AreBefore};
+    ghost use Rattle.shadow.specs.Seats.{cell_of, cells_of};
+    ghost use Rattle.shadow.specs.Shadow.{Shadow};
 
     ghost Value = { Shadow };
 
     ghost view = { λ s. record {
-      layout = s.layout;
-      pages = s.pages;
+      kept = cells_of (cell_of s.layout s.pages);
       last_place = s.last_place;
       least_count = s.least_count;
     } };
 
-    ghost invariant = { λ s. IsShadowBefore (record {
-      layout = s.layout;
-      pages = s.pages;
-      last_place = s.last_place;
-      least_count = s.least_count;
-    }) };
+    ghost invariant = { λ s. AreBefore (s.last_place + 1) s.least_count (cell_of s.layout s.pages) };
 }
 
 impl<S: BuildHasher> Shadow<S> {
@@ -84,7 +83,7 @@ impl<S: BuildHasher> Shadow<S> {
     {
         Shadow {
             layout,
-            pages: Pages::with_hasher(alloc, hasher),
+            pages: Pages::new(alloc, Recent::new(layout), hasher),
             last_place: 0,
             least_count: 1,
         }
@@ -142,11 +141,11 @@ impl<S: BuildHasher> Shadow<S> {
         ensures not_there { OnErr result (kept_of self.old location ≡ untouched) }
     {
         let spot = spot_of(location, self.layout);
-        let at = self.pages.find(spot, self.layout)?;
+        let at = self.pages.find(spot.page, spot.slot)?;
         self.last_place = place;
         self.least_count = bags.count();
         let page = self.pages.page_mut(at, spot.page);
-        Ok(page.names[spot.seat].update(&mut page.reported[spot.seat], bags, location, kind, place))
+        Ok(page.touch(spot.seat, bags, location, kind, place))
     }
 
     /// The location is as it was before its first access.
@@ -157,6 +156,6 @@ impl<S: BuildHasher> Shadow<S> {
         ensures least_count { least_count_of self.new ≡ least_count_of self.old }
     {
         let spot = spot_of(location, self.layout);
-        self.pages.forget(spot, self.layout);
+        self.pages.forget(spot.page, spot.slot, spot);
     }
 }

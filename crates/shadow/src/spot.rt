@@ -1,7 +1,7 @@
 //! Where the cell of a location is.
 ghost use Rattle.std.specs.Prelude.{◌≡◌, ◌+◌, ◌*◌, ◌/◌, ◌%◌, ◌<◌, ◌≤◌, ◌^◌};
 ghost use Rattle.shadow.specs.declared.spot.Layout.TheVariants.{Program, Shards};
-ghost use Rattle.shadow.specs.Pages.{page_of, seat_of, shards_of, own_page_of};
+ghost use Rattle.shadow.specs.Seats.{page_of, seat_of, shards_of, own_page_of};
 
 /// The number of cells of a page.
 const SEATS: u64 = 8;
@@ -22,10 +22,16 @@ pub struct Spot {
     pub page: u64,
     /// The cell's seat in the page.
     pub seat: usize,
-    /// The page's slot among the 1,024 that each remember an index.
-    pub slot: usize,
+    /// The page's slot.
+    pub slot: Slot,
     ghost seat_within: { seat < 8 },
-    ghost slot_within: { slot < 1024 },
+}
+
+/// One of the 1,024 slots that each remember an index.
+#[derive(Clone, Copy)]
+pub struct Slot {
+    pub index: usize,
+    ghost within: { index < 1024 },
 }
 
 /// Where the location's cell is.
@@ -77,7 +83,9 @@ fn spot_of_program(location: u64) -> Spot
     Spot {
         page: own,
         seat: (location / 2 % SEATS) as usize,
-        slot: slot_of_program(own),
+        slot: Slot {
+            index: slot_of_program(own),
+        },
     }
 }
 
@@ -93,7 +101,9 @@ fn spot_at(number: u64, shard: u64, shards: u64) -> Spot
     Spot {
         page: own * shards + shard,
         seat: (number / 8 % SEATS) as usize,
-        slot: slot_among(own),
+        slot: Slot {
+            index: slot_among(own),
+        },
     }
 }
 

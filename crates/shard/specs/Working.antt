@@ -14,7 +14,7 @@ use Rattle.lane.specs.declared.item.Item.TheVariants.{One, Finish}
 use Rattle.lane.specs.Items.{IsBeginning}
 use Rattle.dag.specs.declared.back.Back.{Back}
 use Rattle.dag.specs.declared.back.Back.TheVariants.{Race, NoMemory}
-use Rattle.shadow.specs.Shadow.{HaveSeen}
+use Rattle.shadow.specs.SpBags.{SpBags, HasSeen}
 use Rattle.shard.specs.Shards.{ShardState, capped_count}
 
 -- the records, without their places
@@ -54,20 +54,20 @@ Follow place active (p ∷ u) = (place < p.place) × (p.place ≤ most_records) 
     × Follow p.place ((active + opens p.what) - closes p.what) u
 
 -- the records that a shard may take from here on
-pub record MayTake (s : ShardState) (rest : List Placed) : Type 0 where
+pub record MayTake (s : SpBags) (rest : List Placed) : Type 0 where
   pub after_end : s.ended ≡ true → rest ≡ []
   pub before_end : s.ended ≡ false → Follow s.last_place (length s.bags.active) rest
 
 -- a worker applies what comes: it has applied the records u and put their races
-pub record IsGoing (u : List Placed) (s : ShardState) (put : List (Item Back)) : Type 0 where
-  pub applied : HaveSeen u s.bags s.shadow
+pub record IsGoing (u : List Placed) (s : SpBags) (put : List (Item Back)) : Type 0 where
+  pub applied : HasSeen u s
   pub goes_on : (rest : List Placed) → AreInOrder (u ++ rest) ↔ MayTake s rest
   pub races : put ≡ race_items (found u)
 
 -- a worker was given the records u
 pub record HasWorked (u : List Placed) (s : ShardState) (put : List (Item Back)) (stopped : Bool) : Type 0 where
   pub taken : s.taken ≡ capped_count (length u)
-  pub going : stopped ≡ false → IsGoing u s put
+  pub going : stopped ≡ false → IsGoing u s.sp_bags put
   pub at_end : stopped ≡ true → HasStopped u put
 
 -- a prefix of a share of a well nested trace

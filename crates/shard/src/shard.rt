@@ -1,16 +1,11 @@
 //! The state of a shard: the records that it has taken, as bags and shadow memory.
-ghost use Rattle.std.specs.Prelude.{◌≡◌, false, ℕ, ◌↔◌, ◌+◌, ◌<◌, ◌≤◌, List, [], ◌∷◌, ◌++◌};
-ghost use Rattle.std.specs.Prelude.{IsTrue, IfOk, IfSome, OnOk, OnErr};
-ghost use Rattle.std.specs.Option.{option_to_list};
-ghost use Rattle.dag.specs.declared.records.Placed.{Placed};
-ghost use Rattle.shadow.specs.Found.{found};
-ghost use Rattle.shadow.specs.Cells.{untouched};
-ghost use Rattle.shadow.specs.Shadow.{kept_of, last_place_of, least_count_of, HaveSeen, MayGrow};
-ghost use Rattle.shard.specs.Shards.{Accepts, IsFresh, IsSameShard, is_root_return, capped_count};
+ghost use Rattle.std.specs.Prelude.{◌≡◌, ◌↔◌, ◌+◌, ◌≤◌, IsTrue, IfOk, OnOk, OnErr};
+ghost use Rattle.shadow.specs.Found.{race_of};
+ghost use Rattle.shadow.specs.SpBags.{Accepts, HasApplied, IsBlank, MayGrow, state_of};
+ghost use Rattle.shard.specs.Shards.{IsFresh, IsSameShard, capped_count};
 
-use bags::Bags;
-use dag::{MOST_RECORDS, NoMemory, Placed, Race, Record};
-use shadow::{Shadow, apply_rule};
+use dag::{NoMemory, Placed, Race};
+use shadow::{Shadow, SpBags};
 use std::alloc::Global;
 use std::hash::BuildHasher;
 use std::marker::Model;
@@ -21,37 +16,20 @@ pub struct Shard<S: BuildHasher + Drop> {
     index: u32,
     /// The number of shards.
     shards: u64,
-    bags: Bags,
-    shadow: Shadow<S>,
-    last_place: u64,
-    /// The greatest place that a record may have: 2^48, and 0 once the root has returned.
-    greatest_place: u64,
+    sp_bags: SpBags<S>,
     taken: u64,
 }
 
 impl<S: BuildHasher + Drop> Model for Shard<S> {
-    ghost use Rattle.std.specs.Prelude.{◌≡◌, ◌+◌, ◌==◌, false};
     ghost use Rattle.std.specs.Coded.{codes};
-    ghost use Rattle.dag.specs.Bounds.{most_records};
     ghost use Rattle.bags.specs.Procedures.{coded_procedures};
-    ghost use Rattle.shadow.specs.Shadow.{AreReadyFor};
     ghost use Rattle.shard.specs.Shards.{ShardState};
 
     ghost Value = { ShardState };
 
     ghost coded = { Prim.hlevel (codes, coded_procedures) };
 
-    ghost view = { λ s. record {
-      index = s.index;
-      bags = s.bags;
-      shadow = s.shadow;
-      last_place = s.last_place;
-      ended = s.greatest_place == 0;
-      taken = s.taken;
-    } };
-
-    ghost invariant = { λ s. AreReadyFor s.bags s.shadow (s.last_place + 1)
-        × (s.greatest_place == 0 ≡ false → s.greatest_place ≡ most_records) };
+    ghost view = { λ s. record { index = s.index; sp_bags = s.sp_bags; taken = s.taken } };
 }
 
 impl<S: BuildHasher + Drop> Shard<S> {
@@ -86,19 +64,14 @@ impl<S: BuildHasher + Drop> Shard<S> {
         shards: u64,
         shadow: Shadow<S>,
     ) -> Result<Shard<S>, NoMemory>
-        requires kept { (l : ℕ) → kept_of shadow l ≡ untouched }
-        requires last_place { last_place_of shadow ≡ 0 }
-        requires least_count { least_count_of shadow ≡ 1 }
+        requires { IsBlank shadow }
         ensures new { IfOk result IsFresh }
         ensures index { IfOk result (λ shard. shard.index ≡ index) }
     {
         Ok(Shard {
             index,
             shards,
-            bags: Bags::new(alloc)?,
-            shadow,
-            last_place: 0,
-            greatest_place: MOST_RECORDS,
+            sp_bags: SpBags::new(alloc, shadow)?,
             taken: 0,
         })
     }
@@ -106,60 +79,37 @@ impl<S: BuildHasher + Drop> Shard<S> {
     /// Whether a record may come at this place: the place is above the last record's and at most 2^48, and the root
     /// hasn't returned.
     pub fn accepts(&self, place: u64) -> bool
-        ensures { IsTrue result ↔ Accepts self.now place }
+        ensures { IsTrue result ↔ Accepts self.now.sp_bags place }
     {
-        self.last_place < place && place <= self.greatest_place
+        self.sp_bags.accepts(place)
     }
 
     /// Takes a record of the shard's share, and reports its race, if any. The root's return changes no bags.
     ///
     /// After an error the same call may be made again.
     pub fn apply(&mut self, placed: Placed) -> Result<Option<Race>, NoMemory>
-        requires { Accepts self.old placed.place }
+        requires { Accepts self.old.sp_bags placed.place }
 
-        // The answers are the races found, each at its second place.
-        ensures applied { OnOk result ((u : List Placed) → HaveSeen u self.old.bags self.old.shadow
-            → HaveSeen (u ++ placed ∷ []) self.new.bags self.new.shadow) }
-        ensures found { IfOk result (λ race. (u : List Placed) → HaveSeen u self.old.bags self.old.shadow
-            → found (u ++ placed ∷ []) ≡ found u ++ option_to_list race) }
-        ensures at_second { IfOk result (λ race. (u : List Placed) → HaveSeen u self.old.bags self.old.shadow
-            → IfSome race (λ r. r.second.place ≡ placed.place)) }
-
+        // After the records of a run, the race is the one that this record adds to those found.
+        ensures race { IfOk result (λ race. race ≡ race_of (state_of self.old.sp_bags) placed.place placed.what) }
+        ensures applied { OnOk result (HasApplied placed self.old.sp_bags self.new.sp_bags) }
         ensures index { OnOk result (self.new.index ≡ self.old.index) }
-        ensures last_place { OnOk result (self.new.last_place ≡ placed.place) }
-        ensures ended { OnOk result (self.new.ended ≡ is_root_return self.old.bags placed.what) }
         ensures taken { OnOk result (self.new.taken ≡ capped_count (self.old.taken + 1)) }
 
         // A refusal changes nothing, and comes only at a spawn or at the first access to a location.
         ensures refused { OnErr result (IsSameShard self.old self.new) }
-        ensures may_grow { OnErr result (MayGrow self.old.shadow placed.what) }
+        ensures may_grow { OnErr result (MayGrow self.old.sp_bags.shadow placed.what) }
     {
-        let ended = matches!(placed.what, Record::Return) && self.bags.active() == 1;
         // The rare race has an arm of its own, so that the other records carry none along.
-        match apply_rule(&mut self.bags, &mut self.shadow, placed)? {
+        match self.sp_bags.apply(placed)? {
             None => {
-                self.last_place = placed.place;
-                self.set_ended(ended);
                 self.count_one();
                 Ok(None)
             }
             Some(race) => {
-                self.last_place = placed.place;
-                self.set_ended(ended);
                 self.count_one();
                 Ok(Some(race))
             }
-        }
-    }
-
-    // Sets whether the root has returned. It hadn't, so nothing is written if it still hasn't.
-    #[inline(always)]
-    fn set_ended(&mut self, ended: bool)
-        requires { self.old.ended ≡ false }
-        ensures { self.new ≡ record self.old { ended = ended } }
-    {
-        if ended {
-            self.greatest_place = 0;
         }
     }
 

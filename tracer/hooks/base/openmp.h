@@ -16,8 +16,8 @@ __attribute__((cold)) void openmp_note_other(uintptr_t address, uintptr_t code);
    part of the granule was accessed. */
 __attribute__((cold)) bool openmp_note_stack(bool writes, uintptr_t address, uint32_t *mark, uintptr_t code);
 __attribute__((cold)) void openmp_note_part(uintptr_t granule);
-/* Whether pointers to variables of a region are looked for in what its threads read: of a strand that goes out in these
-   granules of a block, if they are wanted now; and in a granule of the stack. */
+/* Whether pointers to variables of a region are looked for in what its threads read, as in a run for others: of a strand
+   that goes out in these granules of a block, if they are wanted now; and in a granule of the stack. */
 extern bool openmp_seeks;
 bool openmp_seeks_in_blocks(void);
 void openmp_seek_in_block(uintptr_t address, uint64_t granules);

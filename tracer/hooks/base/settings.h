@@ -37,7 +37,7 @@
     SETTING(LOOK, "fd:N", "", "") \
     SETTING(DIVIDE, "fd:N", "", "") \
     SETTING(WAITED, "fd:N", "", "") \
-    SETTING(OTHERS, "a number of phases", "", "") \
+    SETTING(OTHERS, "numbers of constructs", "", "") \
     SETTING(PROGRESS, "fd:N", "", "") \
     SETTING(LAST, "a number of records", "", "")
 /* clang-format on */

@@ -5,7 +5,7 @@
 #include "openmp/loops.h"
 #include "openmp/members.h"
 #include "openmp/notes.h"
-#include "openmp/reached.h"
+#include "openmp/others.h"
 
 void barriers_join_team(uintptr_t code) {
     if (scopes_holder()->kind == SCOPE_MEMBER) {
@@ -30,13 +30,13 @@ void barriers_wait(uintptr_t code) {
     if (!in_share)
         return;
     children_open(SCOPE_SHARE, code);
-    locals_begin_share(newest.is_one, newest.own_first);
+    locals_begin_share(newest.construct, newest.own_first);
 }
 
 bool barriers_leaves_to_others(const struct scope *thread) {
     bool asks = thread->team && thread->team->asks;
     if (!team_is_last(thread))
-        return (thread->master != 0 || asks) != notes_others_do();
+        return thread->master != 0 || asks;
     if (thread->master != 0)
         notes_keep(&notes.master_does_more, thread->master);
     if (asks)
@@ -44,12 +44,16 @@ bool barriers_leaves_to_others(const struct scope *thread) {
     return false;
 }
 
-bool barriers_does_single(void) {
+bool barriers_does_single(uintptr_t code) {
     struct scope *thread = scopes_thread();
+    thread->construct = code;
     if (thread->kind != SCOPE_MEMBER)
         return !barriers_leaves_to_others(thread);
-    bool is_left = thread->singles_met++ == thread->team->singles;
-    bool does = is_left && !barriers_leaves_to_others(thread) && !reached_leaves(thread);
+    bool does = thread->singles_met++ == thread->team->singles;
+    if (does && others_do(code))
+        does = team_is_last(thread) || barriers_leaves_to_others(thread);
+    else if (does)
+        does = !barriers_leaves_to_others(thread);
     thread->team->singles += does;
     return does;
 }
@@ -62,10 +66,10 @@ bool GOMP_barrier_cancel(void) {
     return false;
 }
 
-bool GOMP_single_start(void) { return barriers_does_single(); }
+bool GOMP_single_start(void) { return barriers_does_single(CODE); }
 
 void *GOMP_single_copy_start(void) {
-    if (barriers_does_single())
+    if (barriers_does_single(CODE))
         return NULL;
     members_wait(CODE);
     return scopes_team()->team->copied;

@@ -55,7 +55,7 @@ static void begin_child_body(struct body *body, uintptr_t stack_pointer, uintptr
     if (!body->is_child)
         return;
     children_open(SCOPE_SHARE, code);
-    locals_begin_share(true, stack_pointer);
+    locals_begin_share(body->kind == BODY_SECTION ? loops_construct(thread->loop) : thread->construct, stack_pointer);
     parts_open(FRAME_LOOP_PART, stack_pointer, code);
     uint64_t number = body->kind == BODY_SECTION ? ++thread->shares : 0;
     frames_note_part((struct frame_part){.of = number > 0 ? "sections" : "single", .first = number, .last = number});

@@ -4,40 +4,39 @@
 #include "base/openmp.h"
 #include "openmp/children.h"
 #include "openmp/notes.h"
+#include "openmp/others.h"
 #include "openmp/parts.h"
 #include "openmp/reached.h"
 #include "program/locations.h"
 #include "records/byte_granular.h"
 
 /* A granule that a share has accessed: its usual number, or 0; which share; which of its bytes were read and written, a
-   bit for each, by which code; in which strands last; whether by a task; and whether its thread had accessed it before
-   in this phase. */
+   bit for each, by which code; in which strands last; whether by a task; and whether by several ordered iterations. */
 struct local {
     uintptr_t address;
     uint64_t number, share;
     unsigned read, written;
     uintptr_t codes[GRANULE_MOST_BYTES];
     uint64_t read_in, written_in;
-    bool by_task, again;
+    bool by_task, by_several;
 };
 
-/* Bytes of a granule that were accessed in a phase of the team. */
+/* Bytes of a granule that were accessed in a phase of the team; where by shares, the construct of the newest. */
 struct touched {
     uint64_t phase;
     unsigned read, written;
+    uintptr_t construct;
 };
 
-/* Of each granule of the stacks: the newest phase in which a share accessed it, and whether one of that wrote; the
-   same of a share that is the only one of its kind, or whose thread is reached, or that left a task which did;
-   whether a task did; where it stands in the list; and after which event it was noted once more, with which number,
-   and which of its bytes as read and as written. Then what shares of its own thread did there; and of a granule of
-   the team's first member what those of all members did in their own granules of this place, what others did by
-   pointers in one of these, and which that was. */
+/* Of each granule of the stacks, in its team's newest phase: what shares of its own thread did there, and whether a task
+   that they left did so; and what else the thread did. Of a granule of the team's first member, what shares of all
+   members did in their own granules of this place, what others did by pointers in one of these, and which that was.
+   Then where it stands in the list; and after which event it was noted once more, with which number, and which of its
+   bytes as read and as written. */
 struct place {
-    struct touched by_itself, by_all, by_others;
+    struct touched by_shares, by_thread, by_all, by_others;
     struct place *owner;
-    uint64_t any_phase, phase;
-    bool any_writes, has_task;
+    bool has_task;
     unsigned read, written;
     size_t at;
     uint64_t event, number;
@@ -47,7 +46,6 @@ static struct {
     struct local *list;
     size_t count;
     struct place *places;
-    uint64_t phases;
     /* A share goes out that has accessed nothing of the kind. */
     bool has_none;
 } locals;
@@ -65,14 +63,13 @@ static void reserve(void) {
 void locals_begin_thread(struct scope *thread) {
     reserve();
     thread->quick_end = stacks_running->quick_end;
-    thread->phase = ++locals.phases;
     thread->phase_mark = marks_read;
     scopes.events++;
 }
 
 void locals_end_thread(const struct scope *thread) { stacks_set_quick_end(thread->quick_end); }
 
-void locals_begin_share(bool is_one, uintptr_t stack_pointer) {
+void locals_begin_share(uintptr_t construct, uintptr_t stack_pointer) {
     if (!doing.tracing)
         return;
     reserve();
@@ -82,7 +79,7 @@ void locals_begin_share(bool is_one, uintptr_t stack_pointer) {
     share->own_end = scopes_thread()->stack_end;
     if (share->quick_end == stacks_running->end)
         stacks_running->own_end = share->own_end;
-    share->is_one = is_one;
+    share->construct = construct;
     share->last_number = steps_last_number;
     share->locals = locals.count;
     while (share->locals > 0 && locals.list[share->locals - 1].share == share->number)
@@ -114,35 +111,38 @@ static bool is_again(struct local *local, bool writes) {
     return false;
 }
 
-/* Another thread may do the same, where a pointer is known to lead it there. */
-static void note_reached(uintptr_t code) {
-    notes_keep_phase(&notes.other_may, code);
-    notes_keep_phase(&notes.reached_may, code);
-}
-
-/* The thread accesses again what it has accessed in this phase, maybe in a share. */
-static void note_touched(const struct scope *thread, bool is_one, bool writes, const struct place *place,
-                         uintptr_t code) {
-    bool was_in_share = place->phase == thread->phase;
-    if (is_one || was_in_share)
-        notes_keep_phase(&notes.other_may, code);
-    if (was_in_share && (writes || place->any_writes) && reached_has(thread, STACK_POINTER))
-        note_reached(code);
-    if (was_in_share && place->has_task)
-        notes_keep(&notes.beside_task, code);
-}
-
-static void touch(struct touched *touched, bool writes, uintptr_t address) {
+static struct touched touched_now(const struct team *team, bool writes, uintptr_t address) {
     const unsigned bytes = all_bytes() & ~granules_bytes_left_out(address);
-    if (touched->phase != scopes.phases)
-        *touched = (struct touched){.phase = scopes.phases};
-    *(writes ? &touched->written : &touched->read) |= bytes;
+    return (struct touched){.phase = team->phase, .read = writes ? 0 : bytes, .written = writes ? bytes : 0};
+}
+
+static void add_touched(struct touched *to, struct touched now) {
+    const bool adds = to->phase == now.phase;
+    now.read |= adds ? to->read : 0;
+    now.written |= adds ? to->written : 0;
+    *to = now;
 }
 
 /* The bytes that race if these are of two threads. */
 static unsigned racing(const struct touched *one, const struct touched *other) {
-    const bool is_now = one->phase == scopes.phases && other->phase == scopes.phases;
+    const bool is_now = one->phase == other->phase;
     return is_now ? (one->written & (other->read | other->written)) | (one->read & other->written) : 0;
+}
+
+/* In a run for others these parts were another thread's in the first run, unless a pointer leads to what its own are. */
+static void note_others(const struct scope *thread, uintptr_t construct, uintptr_t code) {
+    if (!others_are_named || reached_has(thread, STACK_POINTER))
+        others_note(construct, code);
+}
+
+/* What its thread's shares, and maybe a task of these, accessed in this phase the thread accesses outside of them. */
+static void note_touched(const struct scope *thread, bool writes, uintptr_t address, const struct place *place,
+                         uintptr_t code) {
+    const struct touched now = touched_now(thread->team, writes, address);
+    if (racing(&now, &place->by_shares) != 0)
+        note_others(thread, place->by_shares.construct, code);
+    if (place->by_shares.phase == now.phase && place->has_task)
+        notes_keep(&notes.beside_task, code);
 }
 
 /* That of the team's first member, from whose stack all others' variables are equally far. */
@@ -155,18 +155,8 @@ static struct place *common_place(const struct team *team, const struct member *
    there by a pointer. */
 static void note_places(const struct place *place, uintptr_t code) {
     if (place->owner &&
-        (racing(&place->by_all, &place->by_others) & ~racing(&place->owner->by_itself, &place->by_others)) != 0)
-        note_reached(code);
-}
-
-static void note_itself(const struct scope *thread, bool writes, uintptr_t address, const uint32_t *mark,
-                        uintptr_t code) {
-    struct place *place = common_place(thread->team, thread->member, address);
-    if (!place)
-        return;
-    touch(&place_of(mark)->by_itself, writes, address);
-    touch(&place->by_all, writes, address);
-    note_places(place, code);
+        (racing(&place->by_all, &place->by_others) & ~racing(&place->owner->by_shares, &place->by_others)) != 0)
+        notes_keep(&notes.beside_name, code);
 }
 
 static void note_other_of(const struct team *team, bool writes, uintptr_t address, uintptr_t code) {
@@ -176,7 +166,7 @@ static void note_other_of(const struct team *team, bool writes, uintptr_t addres
     struct place *place = of < team->members + team->size ? common_place(team, of, address) : NULL;
     if (!place)
         return;
-    touch(&place->by_others, writes, address);
+    add_touched(&place->by_others, touched_now(team, writes, address));
     place->owner = place_of(marks_at(address));
     note_places(place, code);
 }
@@ -192,32 +182,31 @@ static bool is_in_list(const struct scope *share, uintptr_t address, size_t at) 
     return at < locals.count && locals.list[at].address == address && locals.list[at].share == share->number;
 }
 
-/* Whether the thread has accessed the granule before in this phase. */
-static bool was_touched(const struct scope *thread, uint32_t mark, struct place *place) {
-    const bool by_itself = mark >= thread->phase_mark, was_in_share = place->any_phase == thread->phase;
-    if (!was_in_share)
-        place->any_writes = by_itself && mark % 2 == 1;
-    place->any_phase = thread->phase;
-    return by_itself || was_in_share;
+/* Before a share its thread has had the granule. Only in a phase's first strand it is known that it hasn't written. */
+static void note_before(const struct scope *thread, uint32_t mark, struct place *place, uintptr_t code) {
+    const unsigned all = all_bytes();
+    const uint64_t phase = thread->team->phase;
+    if (mark >= thread->phase_mark)
+        add_touched(&place->by_thread, (struct touched){phase, all, mark == thread->phase_mark ? 0 : all, 0});
+    if (place->by_shares.phase == phase && place->has_task)
+        notes_keep(&notes.beside_task, code);
 }
 
 /* The share accesses a granule for the first time, which has another number there. */
-static void begin_local(const struct scope *share, const struct scope *thread, bool writes, uintptr_t address,
-                        uint32_t *mark, uintptr_t code) {
+static void begin_local(const struct scope *share, const struct scope *thread, uintptr_t address, uint32_t *mark,
+                        uintptr_t code) {
     struct place *place = place_of(mark);
-    if (*mark != MARK_UNTOUCHED && thread->phase != 0)
-        note_touched(thread, share->is_one && *mark >= thread->phase_mark, writes, place, code);
+    if (*mark != MARK_UNTOUCHED && thread->kind == SCOPE_MEMBER)
+        note_before(thread, *mark, place, code);
     if (is_in_list(share, address, place->at)) {
         struct local *local = &locals.list[place->at];
         local->read_in = local->written_in = 0;
-        *mark = MARK_UNTOUCHED;
-        return;
+        local->by_several = true;
+    } else {
+        place->at = locals.count;
+        locals.list[locals.count++] = (struct local){
+            .address = address, .number = *mark == MARK_UNTOUCHED ? 0 : *marks_number(mark), .share = share->number};
     }
-    place->at = locals.count;
-    locals.list[locals.count++] = (struct local){.address = address,
-                                                 .number = *mark == MARK_UNTOUCHED ? 0 : *marks_number(mark),
-                                                 .share = share->number,
-                                                 .again = was_touched(thread, *mark, place)};
     *mark = MARK_UNTOUCHED;
 }
 
@@ -225,7 +214,7 @@ static bool note_in_share(const struct scope *share, const struct scope *thread,
                           uintptr_t address, uint32_t *mark, uintptr_t code) {
     recent_begin();
     if (*mark == MARK_UNTOUCHED || *marks_number(mark) <= share->last_number)
-        begin_local(share, thread, writes, address, mark, code);
+        begin_local(share, thread, address, mark, code);
     struct local *local = &locals.list[place_of(mark)->at];
     local->by_task |= by_task;
     add_bytes(local, writes, all_bytes() & ~granules_bytes_left_out(address), code);
@@ -257,12 +246,10 @@ bool openmp_note_stack(bool writes, uintptr_t address, uint32_t *mark, uintptr_t
         note_other(writes, address, code);
     }
     const struct scope *at = scope_of(address, &by_task), *thread = thread_of(at);
-    if (at->kind == SCOPE_SHARE && thread->kind == SCOPE_MEMBER)
-        note_itself(thread, writes, address, mark, code);
     if (at->kind == SCOPE_SHARE)
         return note_in_share(at, thread, by_task, writes, address, mark, code);
     if (at > scopes.first && *mark != MARK_UNTOUCHED)
-        note_touched(at, false, writes, place_of(mark), code);
+        note_touched(at, writes, address, place_of(mark), code);
     return false;
 }
 
@@ -271,6 +258,19 @@ void openmp_note_part(uintptr_t granule) {
     bool by_task = false;
     if (scope_of(granule, &by_task)->kind == SCOPE_SHARE)
         *marks_at(granule) = MARK_TOUCHED;
+}
+
+/* Nothing that the share did in this part of a granule matters any more. */
+static void forget_local(const struct scope *share, uintptr_t granule, uintptr_t first, uintptr_t end) {
+    const size_t at = place_of(marks_at(granule))->at;
+    if (!has_place(share, granule) || !is_in_list(share, granule, at))
+        return;
+    struct local *local = &locals.list[at];
+    for (uintptr_t byte = granule; byte <= (granule | granules_mask); byte++)
+        if (byte >= first && byte < end) {
+            local->read &= ~(1u << (byte - granule));
+            local->written &= ~(1u << (byte - granule));
+        }
 }
 
 bool openmp_seeks_in_blocks(void) {
@@ -358,18 +358,41 @@ static void note_again(const struct local *local) {
     place->number = *marks_number(mark);
 }
 
+/* What a share did goes to what earlier ones of this phase did. Another run may race where both may, or where a third
+   one may with each. */
+static void add_share(const struct scope *thread, struct touched *earlier, const struct touched *now, uintptr_t code) {
+    if (earlier->phase == now->phase && (earlier->construct != now->construct || racing(earlier, now) != 0)) {
+        note_others(thread, earlier->construct, code);
+        note_others(thread, now->construct, code);
+    }
+    add_touched(earlier, *now);
+}
+
+static void note_beside(const struct scope *thread, const struct local *local, const struct touched *now,
+                        struct place *place, struct place *common) {
+    const uintptr_t code = local->codes[__builtin_ctz(noted_bytes(local))];
+    if (racing(now, &place->by_thread) != 0 || (local->by_several && now->written != 0))
+        note_others(thread, now->construct, code);
+    add_share(thread, &place->by_shares, now, code);
+    add_share(thread, &common->by_all, now, code);
+    note_places(common, code);
+}
+
 /* Whether what it accessed there matters for what its thread does later: then that is no repeat. */
 static bool matters(const struct scope *share, const struct scope *thread, const struct local *local) {
-    uint32_t *mark = marks_at(local->address);
-    struct place *place = place_of(mark);
-    bool has_task = local->by_task && scopes_unsynced(share) > 0, is_reached = reached_has(thread, share->own_first);
-    place->any_writes |= local->written != 0;
-    if (is_reached && local->again && place->any_writes)
-        note_reached(local->codes[__builtin_ctz(noted_bytes(local))]);
-    if (!share->is_one && !has_task && !is_reached)
+    if (thread->kind != SCOPE_MEMBER)
         return false;
-    place->has_task = has_task || (place->has_task && place->phase == thread->phase);
-    place->phase = thread->phase;
+    uint32_t *mark = marks_at(local->address);
+    struct place *place = place_of(mark), *common = common_place(thread->team, thread->member, local->address);
+    const struct touched now = {thread->team->phase, local->read, local->written, share->construct};
+    const bool has_task = local->by_task && scopes_unsynced(share) > 0;
+    if (!has_task && (now.construct == 0 || !common))
+        return false;
+    place->has_task = has_task || (place->has_task && place->by_shares.phase == now.phase);
+    if (common)
+        note_beside(thread, local, &now, place, common);
+    else
+        add_touched(&place->by_shares, now);
     *mark = MARK_TOUCHED;
     return true;
 }
@@ -388,6 +411,8 @@ static bool note_all_again(const struct scope *share, const struct scope *thread
     for (size_t at = share->locals; at < locals.count; at++) {
         const struct local *local = &locals.list[at];
         if (local->share == share->number) {
+            if ((local->read | local->written) == 0)
+                continue;
             note_again(local);
             any_matters |= matters(share, thread, local);
         } else {
@@ -415,3 +440,18 @@ uintptr_t locals_end_share(uintptr_t code) {
     stacks_set_quick_end(any_matters ? share.own_first : share.quick_end);
     return share.own_first;
 }
+
+#pragma GCC visibility push(hidden)
+
+/* A variable that an iteration, a section or a single region has of its own has no life any more. */
+void __spbags_dies(uintptr_t first, size_t size) {
+    const struct scope *share = scopes.newest;
+    if (!doing.tracing || share->kind != SCOPE_SHARE || !stacks_have(first))
+        return;
+    recent_begin();
+    for (uintptr_t granule = first & ~granules_mask; granule < first + size; granule += granules_mask + 1)
+        forget_local(share, granule, first, first + size);
+    recent_finish();
+}
+
+#pragma GCC visibility pop

@@ -11,9 +11,9 @@
 void locals_begin_thread(struct scope *thread);
 void locals_end_thread(const struct scope *thread);
 
-/* The newest scope is a share that has begun, in a function with this stack pointer; IS_ONE says that no thread does one
-   like it in this run. Then it ends, and is closed; gives that stack pointer. */
-void locals_begin_share(bool is_one, uintptr_t stack_pointer);
+/* The newest scope is a share of this construct that has begun, in a function with this stack pointer; or of none, where
+   the compiler put it there. Then it ends, and is closed; gives that stack pointer. */
+void locals_begin_share(uintptr_t construct, uintptr_t stack_pointer);
 uintptr_t locals_end_share(uintptr_t code);
 
 #endif

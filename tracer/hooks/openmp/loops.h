@@ -4,13 +4,14 @@
 
 #include "base/common.h"
 
-/* Its counter's first value, step and end; how many iterations it has, and how many have begun; and the most iterations
-   of a share. */
+/* Its counter's first value, step and end; how many iterations it has, how many have begun, and how many of the first
+   ones have their turn behind all others; and the most iterations of a share. */
 struct loop {
-    uint64_t start, step, end, count, begun, most;
+    uint64_t start, step, end, count, begun, put_off, most;
     bool ordered, is_sections;
-    /* Where it begins. */
+    /* Where it begins, and whether other threads do its parts than in the first run. */
     uintptr_t code;
+    bool by_others;
     bool is_static, has_no_barrier;
     /* No barrier comes before what reads its lastprivate variables. */
     bool has_late_last;
@@ -38,6 +39,18 @@ static inline void loops_end_from(struct loop *first) { loops.next = first; }
 
 /* The thread that runs comes to this loop: its own is that one, which another member may have begun. */
 void loops_begin(struct loop loop);
+
+/* By what others_do knows it. With schedule(static) a thread may rely on what it did in a loop like that. */
+static inline uintptr_t loops_construct(const struct loop *loop) {
+    enum { ALL_STATIC = 1 };
+    return loop->is_static ? ALL_STATIC : loop->code;
+}
+
+/* The number of the iteration that has begun last. */
+static inline uint64_t loops_newest(const struct loop *loop) {
+    const uint64_t behind = loop->begun + loop->put_off;
+    return (behind > loop->count ? behind - loop->count : behind) - 1;
+}
 
 static inline uint64_t loops_steps(uint64_t distance, uint64_t step) {
     return distance / step + (distance % step != 0);

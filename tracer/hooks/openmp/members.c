@@ -2,10 +2,12 @@
 
 #include "base/openmp.h"
 #include "records/look.h"
+#include "records/look_stacks.h"
 #include "openmp/children.h"
 #include "openmp/locals.h"
 #include "openmp/loops.h"
 #include "openmp/notes.h"
+#include "openmp/others.h"
 #include "openmp/parts.h"
 #include "openmp/silence.h"
 #include "openmp/turns.h"
@@ -59,7 +61,7 @@ static void join_members(struct team *team, uintptr_t code) {
     if (doing.looking && doing.tracing)
         look_at_wait(team->frame, code, false);
     children_join_from(scopes.newest, code);
-    scopes.phases++;
+    team->phase = ++scopes.phases;
     team->singles = 0;
     team->masters = 0;
     loops_end_from(team->first_loop);
@@ -108,7 +110,7 @@ static void run_member(struct member *member, uintptr_t stack_end) {
     begin_part(member, team->code);
     procedures_push(FRAME_TASK_PART, stack_end);
     frames_top->code = team->code;
-    frames_note_part((struct frame_part){(uintptr_t)region->data, look_region_name, (uint64_t)member->scope.thread,
+    frames_note_part((struct frame_part){(uintptr_t)region->data, look_stacks_region, (uint64_t)member->scope.thread,
                                          (uint64_t)member->scope.thread, region->whole != NULL});
     member->base = frames_top;
     silence_follow_body();
@@ -166,13 +168,13 @@ void openmp_note_other(uintptr_t address, uintptr_t code) {
 }
 
 void members_do_region(struct team *team) {
-    frames_note_part((struct frame_part){.of = look_region_name, .is_hidden = !team->region.whole});
-    uint32_t node = doing.looking ? look_node_of(look_top()) : FRAME_NONE;
+    frames_note_part((struct frame_part){.of = look_stacks_region, .is_hidden = !team->region.whole});
+    uint32_t node = doing.looking ? look_stacks_node_of(look_stacks_top()) : FRAME_NONE;
     unsigned used = turns.stacks_used;
     const bool sought = openmp_seeks;
     const struct scope *around = scopes.newest;
-    openmp_seeks |= !team->region.whole;
-    scopes.phases++;
+    openmp_seeks |= others_are_named && !team->region.whole;
+    team->phase = ++scopes.phases;
     for (unsigned number = 0; number < team->size; number++)
         make_member(team, number, around, node);
     run_member(team->members, frames_top->end - 1);

@@ -2,6 +2,7 @@
 
 #include "base/openmp.h"
 #include "openmp/loops.h"
+#include "openmp/others.h"
 #include "openmp/team.h"
 #include "openmp/waits.h"
 #include "base/source_line.h"
@@ -71,14 +72,12 @@ static void tell_others(void) {
         tell_incomplete("%s: this accesses what another thread has of its own, by threadprivate or thread_local. What "
                         "that thread does there isn't recorded: races with it aren't seen",
                         place_of(notes.others_own));
-    const bool may_others = notes.others_from == 0 && notes.reached_may.code == 0;
-    const struct note_of_phase *may = may_others ? &notes.other_may : &notes.reached_may;
-    if (may->code != 0)
-        tell_unmodelled(tell_numbered("others", may->phase).text,
-                        "%s: this accesses a variable of the parallel region that its thread also accesses in a single "
-                        "region, a section or an iteration. Where another thread does that, by a pointer, races of "
-                        "both aren't seen",
-                        place_of(may->code));
+    others_tell();
+    if (notes.beside_name != 0)
+        tell_incomplete("%s: this accesses a variable of the parallel region that single regions, sections or "
+                        "iterations access by its name, and others in another thread by a pointer. Where the thread "
+                        "that has it does the former, races of both aren't seen",
+                        place_of(notes.beside_name));
     if (notes.beside_task != 0)
         tell_incomplete("%s: this accesses a variable of the parallel region that a task accesses too, which its "
                         "thread has made in a loop, a section or a single region: races of both aren't seen",

@@ -40,16 +40,9 @@ extern struct notes {
     uintptr_t depend_wait, depend_ignored;
     /* An access of what another thread has of its own. */
     uintptr_t others_own;
-    /* An access of a variable of the region that its thread accesses in a single region, a section or a loop of one
-       iteration, and also outside of that; the same in any share, where others may know a pointer to that variable; and
-       one of a variable that a task accesses too, which such a share has left. */
-    struct note_of_phase {
-        uintptr_t code;
-        uint64_t phase;
-    } other_may, reached_may;
-    uintptr_t beside_task;
-    /* From this phase on another thread does what any may do than in the first run, or 0. */
-    uint64_t others_from;
+    /* An access of a variable of the region that shares access by its name, and others in another thread by a pointer;
+       and one of a variable that a task accesses too, which a share has left. */
+    uintptr_t beside_name, beside_task;
     /* A region that OpenMP would cancel. */
     uintptr_t cancelled;
 } notes;
@@ -58,13 +51,6 @@ static inline void notes_keep(uintptr_t *first, uintptr_t code) {
     if (*first == 0)
         *first = code;
 }
-
-static inline void notes_keep_phase(struct note_of_phase *first, uintptr_t code) {
-    if (first->code == 0)
-        *first = (struct note_of_phase){code, scopes.phases};
-}
-
-static inline bool notes_others_do(void) { return notes.others_from != 0 && scopes.phases >= notes.others_from; }
 
 /* So many more outlive this wait. */
 void notes_add_outlived(uint64_t count, uintptr_t wait, uintptr_t code);

@@ -14,6 +14,7 @@ void ordered_begin_loop(struct loop loop, uintptr_t code) {
     const struct scope *thread = scopes_thread();
     if (thread->alone || thread->loop->begun > 0)
         return;
+    shares_come_to_loop(thread, code);
     for (uint64_t share = loops_steps(shares_left(thread), thread->loop->most); share > 0; share--)
         children_open(SCOPE_SHARE, code);
 }

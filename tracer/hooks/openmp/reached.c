@@ -16,7 +16,6 @@ static void note_in_team(struct team *team, uintptr_t pointer) {
         struct member *member = &team->members[number];
         if (!reached_lies_in(member, pointer))
             continue;
-        team->reached |= (uint64_t)1 << number;
         member->reached = pointer > member->reached ? pointer : member->reached;
     }
 }

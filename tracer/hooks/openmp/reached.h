@@ -1,6 +1,6 @@
 /* Pointers that lead other threads to variables of a region: those in memory that isn't the thread's own, as the
-   program reads it. What one thread does by such a pointer to its own variable in a share any thread may do: so it
-   leaves the rest to others, where races of both are seen. */
+   program reads it. In a run for others one part may have handed such a pointer to another one, and the same thread does
+   both, as in the first run. */
 #ifndef SPBAGS_OPENMP_REACHED_H
 #define SPBAGS_OPENMP_REACHED_H
 
@@ -18,11 +18,6 @@ static inline bool reached_lies_in(const struct member *member, uintptr_t addres
 /* Whether such a pointer leads to this thread's variables from this address on. */
 static inline bool reached_has(const struct scope *thread, uintptr_t first) {
     return thread->kind == SCOPE_MEMBER && thread->member->reached >= first;
-}
-
-/* Whether it had better leave to others what any thread may do. */
-static inline bool reached_leaves(const struct scope *thread) {
-    return reached_has(thread, (uintptr_t)__builtin_frame_address(0)) && team_has_later(thread);
 }
 
 #endif

@@ -5,6 +5,7 @@
 #include "openmp/depend.h"
 #include "openmp/loops.h"
 #include "openmp/notes.h"
+#include "openmp/others.h"
 #include "openmp/reductions.h"
 #include "openmp/teams.h"
 #include "openmp/turns.h"
@@ -65,7 +66,7 @@ __attribute__((constructor(102))) static void start_openmp(void) {
     teams.size = threads_of_team();
     teams.is_chosen = settings_text(SETTING_TEAM) != NULL;
     teams.nests = settings_is(SETTING_NESTED, "1");
-    notes.others_from = settings_number_or(SETTING_OTHERS, 0);
+    others_start();
     set_threads_of_levels();
     scopes.first->threads_wanted = teams_threads_by_variable(0);
     teams.most_active_levels = levels_of_teams();

@@ -56,13 +56,12 @@ struct scope {
     uintptr_t master;
     /* Of a share, and of a member: which variables are its thread's own; and the stack's quick end before. */
     uintptr_t own_first, own_end, quick_end;
-    /* Of a share: whether no other thread does the same; how many locals are those of shares around, and the last
-       number before. */
-    bool is_one;
+    /* Of a share: whose part it is, or 0; how many locals are those of shares around, and the last number before. Of a
+       thread: the single region that it has come to. */
+    uintptr_t construct;
     size_t locals;
     uint64_t last_number;
-    /* Of a member: no other phase has this number; and marks from this one on are of it. */
-    uint64_t phase;
+    /* Of a member: marks from this one on are of this phase. */
     uint32_t phase_mark;
     /* It is in the program's own code of its region; its next barrier is clang's alone. */
     bool in_body, skips_barrier;

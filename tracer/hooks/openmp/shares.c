@@ -4,8 +4,8 @@
 #include "openmp/children.h"
 #include "openmp/locals.h"
 #include "openmp/notes.h"
+#include "openmp/others.h"
 #include "openmp/parts.h"
-#include "openmp/reached.h"
 #include "openmp/silence.h"
 #include "shadow/own.h"
 #include "shadow/stacks.h"
@@ -24,23 +24,49 @@ static bool is_shared_out(const struct scope *thread) {
            (!thread->team->region.whole || own_has_variables());
 }
 
+/* How many of the last iterations another thread does: two of them may race with each other. */
+static uint64_t kept_for_later(const struct scope *thread) {
+    return is_shared_out(thread) && team_has_later(thread) ? least(thread->loop->count / 2, 2) : 0;
+}
+
+/* Where others do what any may do: the first thread that comes did all of the loop but what it kept for later, or it
+   had to leave all to others. */
+static uint64_t left_for_others(const struct scope *thread, uint64_t left) {
+    const struct loop *loop = thread->loop;
+    const bool is_first = loop->begun == thread->taken;
+    if (!is_first || team_is_last(thread) || barriers_leaves_to_others(thread))
+        return left;
+    return loop->put_off > 0 ? loop->count - loop->put_off - thread->taken : 0;
+}
+
+void shares_come_to_loop(const struct scope *thread, uintptr_t code) {
+    struct loop *loop = thread->loop;
+    if (loop->code != 0)
+        return;
+    loop->code = code;
+    loop->by_others = others_do(loops_construct(loop));
+    if (loop->by_others && !team_is_last(thread) && !barriers_leaves_to_others(thread) && kept_for_later(thread) > 0)
+        loop->put_off = loop->count - kept_for_later(thread);
+}
+
 uint64_t shares_left(const struct scope *thread) {
     const struct loop *loop = thread->loop;
     uint64_t left = loop->count - loop->begun;
     if (loop->in_blocks)
         return left_of_block(thread, left);
-    if (left > 0 && (barriers_leaves_to_others(thread) || (!loop->ordered && reached_leaves(thread))))
+    if (loop->by_others)
+        return left_for_others(thread, left);
+    if (left > 0 && barriers_leaves_to_others(thread))
         return 0;
-    /* The first does most of it: two iterations of another one may race with each other. */
-    uint64_t kept = is_shared_out(thread) && team_has_later(thread) ? least(loop->count / 2, 2) : 0;
-    return left - least(kept, left);
+    return left - least(kept_for_later(thread), left);
 }
 
-/* How many iterations the thread has next. gcc asks for each section. */
+/* How many consecutive iterations the thread has next. gcc asks for each section. */
 static uint64_t next_size(const struct scope *thread) {
     const struct loop *loop = thread->loop;
-    uint64_t left = shares_left(thread);
-    return loop->in_blocks && !loop->is_sections ? left : least(loop->most, left);
+    const uint64_t left = shares_left(thread), behind = loop->begun + loop->put_off;
+    const uint64_t consecutive = behind < loop->count ? least(loop->count - behind, left) : left;
+    return loop->in_blocks && !loop->is_sections ? consecutive : least(loop->most, consecutive);
 }
 
 /* What the thread does behind a block comes after that. */
@@ -56,27 +82,18 @@ static void end_share(const struct scope *thread, uintptr_t code) {
 static void note_share(const struct loop *loop, uint64_t first) {
     frames_note_part((struct frame_part){.of = loop->is_sections ? "sections" : "loop",
                                          .first = first,
-                                         .last = loop->start + (loop->begun - 1) * loop->step});
-}
-
-/* Whether no other thread does an iteration like those of this one. */
-static bool is_one(const struct scope *thread) {
-    const struct loop *loop = thread->loop;
-    bool is_whole = thread->team && thread->team->region.whole;
-    return !is_whole && (loop->is_sections || loop->ordered || loop->count == 1);
+                                         .last = loop->start + loops_newest(loop) * loop->step});
 }
 
 /* A block is no child, but a part of what its thread does. */
-static void begin_share(const struct scope *thread, uint64_t first, uintptr_t stack_pointer, uintptr_t code) {
+static void begin_share(const struct scope *thread, uint64_t first, uintptr_t stack_pointer) {
     struct loop *loop = thread->loop;
     silence_from(NULL);
-    if (loop->code == 0)
-        loop->code = code;
     if (thread->alone || loop->in_blocks)
         return;
     if (!loop->ordered)
         children_open(SCOPE_SHARE, loop->code);
-    locals_begin_share(is_one(thread), stack_pointer);
+    locals_begin_share(loops_construct(loop), stack_pointer);
     parts_open(FRAME_LOOP_PART, stack_pointer, loop->code);
     note_share(loop, first);
 }
@@ -95,7 +112,7 @@ static bool has_following(const struct scope *thread) {
 static void begin_following(bool is_child, uintptr_t stack_pointer, uintptr_t code) {
     if (is_child) {
         children_open(SCOPE_SHARE, code)->follows_loop = true;
-        locals_begin_share(false, stack_pointer);
+        locals_begin_share(0, stack_pointer);
         parts_open(FRAME_LOOP_PART, stack_pointer, code);
         frames_note_part((struct frame_part){.of = "reduction"});
     }
@@ -134,6 +151,7 @@ void shares_note_long(const struct scope *thread, uint64_t size) {
 bool shares_take(uint64_t *first, uint64_t *end, uintptr_t stack_pointer, uintptr_t code) {
     struct scope *thread = scopes_thread();
     struct loop *loop = thread->loop;
+    shares_come_to_loop(thread, code);
     uint64_t size = next_size(thread);
     bool goes_on = loop->in_blocks && size > 0;
     if (thread->shares > 0 && !goes_on && scopes.newest->kind == SCOPE_SHARE) {
@@ -142,11 +160,12 @@ bool shares_take(uint64_t *first, uint64_t *end, uintptr_t stack_pointer, uintpt
     }
     if (size == 0)
         return false;
-    *first = loop->start + loop->begun * loop->step;
     loop->begun += size;
-    *end = loop->begun == loop->count ? loop->end : loop->start + loop->begun * loop->step;
+    const uint64_t behind = loops_newest(loop) + 1;
+    *first = loop->start + (behind - size) * loop->step;
+    *end = behind == loop->count ? loop->end : loop->start + behind * loop->step;
     if (thread->shares++ == 0 || !goes_on)
-        begin_share(thread, *first, stack_pointer, code);
+        begin_share(thread, *first, stack_pointer);
     thread->taken += size;
     shares_note_long(thread, loop->in_blocks ? thread->taken : size);
     return true;

@@ -1,14 +1,17 @@
 /* Shares of loops. The wrapper gives every loop the schedule `dynamic`, so that gcc asks for each iteration here: then
    the share before ends, and a new one begins. The first member of a team that comes does all but the last two, which
-   another one does; if the region is nothing but the loop, mostly it does all. Variables of a thread are private to
-   each share, so all stack memory below its region's loses its numbers between two. */
+   another one does; if the region is nothing but the loop, mostly it does all. In a run for others it does these two,
+   and another one the rest. Variables of a thread are private to each share, so all stack memory below its region's
+   loses its numbers between two. */
 #ifndef SPBAGS_OPENMP_SHARES_H
 #define SPBAGS_OPENMP_SHARES_H
 
 #include "openmp/loops.h"
 #include "openmp/team.h"
 
-/* How many iterations are left for the thread, of its block if it has one; the others it leaves to others. */
+/* The thread comes to its loop by this code; then how many iterations are left for it, of its block if it has one. The
+   others it leaves to others. */
+void shares_come_to_loop(const struct scope *thread, uintptr_t code);
 uint64_t shares_left(const struct scope *thread);
 void shares_note_long(const struct scope *thread, uint64_t size);
 

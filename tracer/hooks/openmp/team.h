@@ -42,8 +42,8 @@ struct team {
     struct loop *first_loop;
     uint32_t singles;
     uint64_t masters;
-    /* The same of those that have a variable that others may know a pointer to. */
-    uint64_t reached;
+    /* What it does up to the next barrier; no other phase has this number. */
+    uint64_t phase;
     /* A member has asked for its number. */
     bool asks;
     /* What a single region hands to the other members. */
@@ -52,11 +52,11 @@ struct team {
 
 static inline bool team_is_last(const struct scope *thread) { return thread->thread + 1 == (int)thread->size; }
 
-/* Whether a later member of the team may do a part of a loop too: one that does no master region, and isn't reached. */
+/* Whether a later member of the team may do a part of a loop too: one that does no master region. */
 static inline bool team_has_later(const struct scope *thread) {
     const struct team *team = thread->team;
     const uint64_t all = UINT64_MAX >> (64 - thread->size), later = -((uint64_t)2 << thread->thread);
-    return (all & later & ~team->masters & ~team->reached) != 0;
+    return (all & later & ~team->masters) != 0;
 }
 
 #endif

@@ -1,6 +1,6 @@
 #include "openmp/teams.h"
 
-#include "records/look.h"
+#include "records/look_stacks.h"
 #include "openmp/children.h"
 #include "openmp/loops.h"
 #include "openmp/members.h"
@@ -63,7 +63,7 @@ void teams_begin(unsigned threads, void *data, uintptr_t stack_pointer, uintptr_
     team->loop = loops_of_thread();
     teams.active_levels += !alone;
     parts_open(FRAME_CALLED, stack_pointer, code);
-    frames_note_part((struct frame_part){.data = (uintptr_t)data, .of = look_region_name});
+    frames_note_part((struct frame_part){.data = (uintptr_t)data, .of = look_stacks_region});
 }
 
 void teams_end(uintptr_t stack_pointer, uintptr_t code) {

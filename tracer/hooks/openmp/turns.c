@@ -2,7 +2,7 @@
 
 #include "program/hidden.h"
 #include "program/locations.h"
-#include "records/look.h"
+#include "records/look_stacks.h"
 #include "base/memory.h"
 #include "openmp/bodies.h"
 #include "base/caller.h"
@@ -74,7 +74,7 @@ static void enter_stack(struct stack *stack) {
 
 static void give_turn(struct stack *next) {
     if (doing.looking)
-        look_node_of(look_top());
+        look_stacks_node_of(look_stacks_top());
     leave_stack();
     enter_stack(next);
     sem_post(&next->turn);

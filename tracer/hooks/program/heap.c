@@ -4,7 +4,7 @@
 
 #include "program/procedures.h"
 #include "program/locations.h"
-#include "records/look.h"
+#include "records/look_heap.h"
 #include "base/memory.h"
 #include "program/accesses.h"
 
@@ -389,7 +389,7 @@ static void give_back(void *block) {
 #define BLOCK(ALIGNMENT, SIZE) seen_block(new_block(ALIGNMENT, SIZE), SIZE, STACK_POINTER, CODE)
 static inline void *seen_block(void *block, size_t size, uintptr_t stack_pointer, uintptr_t code) {
     if (__builtin_expect(doing.looking, 0) && block)
-        look_at_block((uintptr_t)block, size, location_if_dead((uintptr_t)block), stack_pointer, code);
+        look_heap_note((uintptr_t)block, size, location_if_dead((uintptr_t)block), stack_pointer, code);
     return block;
 }
 

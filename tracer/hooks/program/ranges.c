@@ -34,7 +34,7 @@ static void note_granules(bool writes, uintptr_t at, uintptr_t end, uintptr_t co
             (uint8_t *)((uintptr_t)(row + (intptr_t)(at >> GRANULE_USUAL_SHIFT)) & ~(uintptr_t)(BLOCK_GRANULES - 1));
         uint64_t granules = blocks_granules_from(blocks_granule_at(at), (last - at) >> GRANULE_USUAL_SHIFT),
                  new = blocks_new(writes, done, granules);
-        if (new != 0 && (new & ~blocks_granules_with(done, BLOCK_QUICK)) == 0)
+        if (new != 0 && (blocks_granules_without(done, BLOCK_QUICK) & new) == 0)
             blocks_set(done, new, bit);
         else if (new != 0)
             locations_touch_block(writes, at, last, code);

@@ -35,16 +35,6 @@ void look_note_pending(bool writes, uint64_t location, uintptr_t address, uintpt
 void look_forget_pending(void);
 /* An access reaches these bytes of a unit and not all; or some begin another life, which has none. */
 void look_note_part(uint64_t location, unsigned bytes);
-/* A block of the heap begins, for which DEAD stands if it dies in the strand of its birth, or 0. */
-void look_at_block(uintptr_t address, size_t size, uint64_t dead, uintptr_t stack_pointer, uintptr_t code);
 void look_put_notes(void);
-
-/* What stands for a frame in a stack. */
-extern const char look_region_name[];
-static inline size_t look_top(void) { return (size_t)(frames_top - frames_all); }
-uint32_t look_node_of(size_t frame);
-/* The node of the innermost child that is running, or the root's, and whether a node is of it or of one within. */
-uint32_t look_procedure_now(void);
-bool look_is_in(uint32_t node, uint32_t procedure);
 
 #endif

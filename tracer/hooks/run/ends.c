@@ -5,6 +5,7 @@
 #include "base/settings.h"
 #include "base/tell.h"
 #include "library/unknown.h"
+#include "program/hidden.h"
 #include "program/locations.h"
 #include "records/course.h"
 #include "records/look.h"
@@ -37,6 +38,9 @@ static void tell_notes(void) {
         tell_record(tell_numbered("depth", frames_procedures_most - 1).text,
                     "procedures nest %u deep, so spbags needs --depth %u or more", frames_procedures_most - 1,
                     frames_procedures_most - 1);
+    if (frames_initialising > hidden_updates)
+        tell_incomplete("an exception, a jump or the run's end has left what initialises a static or is called once: "
+                        "nothing behind its beginning is recorded");
     openmp_tell_notes();
     unknown_tell();
 }

@@ -110,24 +110,30 @@ static inline struct block_touched blocks_at(uintptr_t address) {
 /* The block of this heap block of a span, where that has died in the strand of its birth. */
 struct block_touched blocks_dead(size_t span, size_t number);
 
-/* A bit for each of a block's granules whose byte has this one. */
-static inline uint64_t blocks_granules_with(const uint8_t *done, int bit) {
+/* A bit for each of a block's granules whose byte has none of these; and for each that has one. */
+static inline uint64_t blocks_granules_without(const uint8_t *done, uint8_t bits) {
+    const __m128i wanted = _mm_set1_epi8((char)bits);
     uint64_t granules = 0;
+#pragma GCC unroll 4
     for (unsigned part = 0; part < BLOCK_GRANULES; part += 16) {
-        __m128i bytes = _mm_load_si128((const void *)(done + part));
-        granules |= (uint64_t)(unsigned)_mm_movemask_epi8(_mm_slli_epi16(bytes, 7 - __builtin_ctz(bit))) << part;
+        __m128i has = _mm_and_si128(_mm_load_si128((const void *)(done + part)), wanted);
+        granules |= (uint64_t)(unsigned)_mm_movemask_epi8(_mm_cmpeq_epi8(has, _mm_setzero_si128())) << part;
     }
     return granules;
 }
 
-static inline bool blocks_was_done(bool writes, uint8_t done) {
-    return (done & (writes ? BLOCK_WROTE : BLOCK_READ | BLOCK_WROTE)) != 0;
+static inline uint64_t blocks_granules_with(const uint8_t *done, uint8_t bits) {
+    return ~blocks_granules_without(done, bits);
 }
+
+/* What makes an access of a granule a repeat. */
+static inline uint8_t blocks_repeated_by(bool writes) { return writes ? BLOCK_WROTE : BLOCK_READ | BLOCK_WROTE; }
+
+static inline bool blocks_was_done(bool writes, uint8_t done) { return (done & blocks_repeated_by(writes)) != 0; }
 
 /* What isn't a repeat of these. */
 static inline uint64_t blocks_new(bool writes, const uint8_t *done, uint64_t granules) {
-    return granules &
-           ~(blocks_granules_with(done, BLOCK_WROTE) | (writes ? 0 : blocks_granules_with(done, BLOCK_READ)));
+    return granules & blocks_granules_without(done, blocks_repeated_by(writes));
 }
 
 /* Each in one step, so that what a handler of a signal sets meanwhile stays. */

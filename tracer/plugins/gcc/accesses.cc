@@ -2,6 +2,7 @@
 
 #include "assembly.h"
 #include "calls.h"
+#include "lives.h"
 
 /* Memory of this function alone: nothing takes its address. */
 bool accesses::is_own(tree base) const {
@@ -32,13 +33,16 @@ static tree variable_behind(tree base) {
     return TREE_CODE(address) == ADDR_EXPR ? TREE_OPERAND(address, 0) : base;
 }
 
-/* What the compiler itself keeps, of whether a variable is initialised: who comes later waits, or has its own. */
+/* What the compiler itself keeps, of whether a variable is initialised, and std::call_once: who comes later waits, or has
+   its own. */
 static bool is_of_initialisation(tree reference) {
     tree base = variable_behind(reference);
-    if (!VAR_P(base) || !DECL_ARTIFICIAL(base) || !is_global_var(base) || !DECL_NAME(base))
+    if (!VAR_P(base) || !is_global_var(base) || !DECL_NAME(base))
         return false;
     const char *name = IDENTIFIER_POINTER(DECL_NAME(base));
-    return begins_with(name, "_ZGV") || strcmp(name, "__tls_guard") == 0;
+    if (DECL_ARTIFICIAL(base))
+        return begins_with(name, "_ZGV") || strcmp(name, "__tls_guard") == 0;
+    return DECL_THREAD_LOCAL_P(base) && DECL_IN_SYSTEM_HEADER(base) && begins_with(name, "__once_call");
 }
 
 /* A child's result is stored there on its way to the parent, and then a hook of its own says so. */
@@ -193,9 +197,25 @@ static bool is_of_atomic_read(gimple *store) {
            operand_equal_p(gimple_assign_lhs(store), gimple_assign_rhs1(load), 0);
 }
 
-void accesses::find_in(gimple *statement) {
-    if (is_gimple_debug(statement) || gimple_clobber_p(statement))
+/* What the compiler hands over to a task has no life behind that. */
+void accesses::note_end(gimple *clobber) {
+    tree variable = gimple_assign_lhs(clobber);
+    gimple_seq sequence = nullptr;
+    if (!lives_are_wanted || !VAR_P(variable) || is_own(variable) || !DECL_SIZE_UNIT(variable) ||
+        !tree_fits_shwi_p(DECL_SIZE_UNIT(variable)))
         return;
+    gimple_seq_add_stmt(&sequence, call_hook("__spbags_dies", {address_of(variable),
+                                                               number_of(tree_to_shwi(DECL_SIZE_UNIT(variable)))}));
+    put_before(clobber, sequence);
+}
+
+void accesses::find_in(gimple *statement) {
+    if (is_gimple_debug(statement))
+        return;
+    if (gimple_clobber_p(statement)) {
+        note_end(statement);
+        return;
+    }
     if (gcall *call = dyn_cast<gcall *>(statement)) {
         find_in_call(*this, call);
     } else if (gasm *assembly = dyn_cast<gasm *>(statement)) {

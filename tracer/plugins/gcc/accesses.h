@@ -19,6 +19,7 @@ class accesses {
     void note_memory(gimple *statement, tree address, tree size, bool writes, way made = PLAINLY, bool behind = false);
     /* That a statement accesses memory which can't be told. */
     void note_unseen(gimple *statement);
+    void note_end(gimple *clobber);
     /* What else is to stand before a statement. */
     void put_before(gimple *statement, gimple_seq sequence);
     /* What is found in the whole function. */

@@ -1,4 +1,5 @@
 #include "checks.h"
+#include "lives.h"
 
 #include "../inline_checks.h"
 
@@ -58,6 +59,27 @@ static bool is_of_own_memory(gimple *statement) {
     return base && is_local(base);
 }
 
+static bool note_address(gimple *, tree base, tree, void *found) {
+    static_cast<std::set<tree> *>(found)->insert(base);
+    return false;
+}
+
+/* Adds the variables whose addresses the program's own statements of a block take. */
+static void find_addressed(basic_block block, std::set<tree> *found) {
+    for (gphi_iterator at = gsi_start_phis(block); !gsi_end_p(at); gsi_next(&at))
+        walk_stmt_load_store_addr_ops(at.phi(), found, nullptr, nullptr, note_address);
+    for (gimple_stmt_iterator at = gsi_start_bb(block); !gsi_end_p(at); gsi_next(&at))
+        if (!called_hook(gsi_stmt(at)))
+            walk_stmt_load_store_addr_ops(gsi_stmt(at), found, nullptr, nullptr, note_address);
+}
+
+/* The end of a variable's life that no other function accesses by a pointer. */
+static bool is_needless_end(gimple *statement, const std::set<tree> &addressed) {
+    const char *name = called_hook(statement);
+    tree address = name && strcmp(name, "__spbags_dies") == 0 ? gimple_call_arg(statement, 0) : NULL_TREE;
+    return address && TREE_CODE(address) == ADDR_EXPR && addressed.count(TREE_OPERAND(address, 0)) == 0;
+}
+
 static void remove_hook(gimple_stmt_iterator *at) {
     gimple *hook = gsi_stmt(*at);
     unlink_stmt_vdef(hook);
@@ -67,10 +89,14 @@ static void remove_hook(gimple_stmt_iterator *at) {
 
 bool checks_drop_own(function *fun) {
     bool dropped = false;
+    std::set<tree> addressed;
     basic_block block;
+    if (lives_are_wanted)
+        FOR_EACH_BB_FN (block, fun)
+            find_addressed(block, &addressed);
     FOR_EACH_BB_FN (block, fun)
         for (gimple_stmt_iterator at = gsi_start_bb(block); !gsi_end_p(at);) {
-            bool is_needless = is_of_own_memory(gsi_stmt(at));
+            bool is_needless = is_of_own_memory(gsi_stmt(at)) || is_needless_end(gsi_stmt(at), addressed);
             dropped |= is_needless;
             if (is_needless)
                 remove_hook(&at);

@@ -2,13 +2,15 @@
    at each function's entry and exit. gcc loads it by -fplugin; by -fplugin-arg-spbags-checks tests stand inline,
    without it hooks are called.
 
-   Each function goes through passes: reducers.h puts the hooks of reducers there, and plain.h answers what headers ask;
+   Each function goes through passes: reducers.h puts the hooks of reducers there, lives.h those of what iterations have
+   of their own, and plain.h answers what headers ask;
    frames.h marks the ways out; accesses.h puts the hooks of accesses before any optimization; checks.h drops those of
    what turns out to be the function's alone; at last ranges.h makes one of those of a loop, and checks.h puts tests in
    place of calls. */
 #include "accesses.h"
 #include "checks.h"
 #include "frames.h"
+#include "lives.h"
 #include "plain.h"
 #include "ranges.h"
 #include "reducers.h"
@@ -82,6 +84,7 @@ static unsigned put_reducers(function *fun) {
     if (plain_is_asked)
         plain_put(fun);
     reducers_put(fun);
+    lives_put(fun);
     return 0;
 }
 
@@ -162,9 +165,11 @@ int plugin_init(plugin_name_args *given, plugin_gcc_version *version) {
         error("the plugin is for gcc %s", gcc_version.basever);
         return 1;
     }
-    for (int at = 0; at < given->argc; at++)
+    for (int at = 0; at < given->argc; at++) {
         if (strcmp(given->argv[at].key, "checks") == 0)
             checks_begin(given->base_name);
+        lives_are_wanted |= strcmp(given->argv[at].key, "lives") == 0;
+    }
     hooks_begin(given->base_name);
     plain_begin(given->base_name);
     reducers_begin(given->base_name);

@@ -41,6 +41,19 @@ void accesses::note_compare(Instruction *by, Value *address, Value *expected, Va
 
 void accesses::note_unseen(Instruction *by) { call_hook(by, "__spbags_unseen", {place_of(*by)}); }
 
+void accesses::note_end(Instruction *by, Value *address, Value *size) {
+    auto *bytes = dyn_cast<ConstantInt>(size);
+    if (has_parts && bytes && !bytes->isMinusOne() && !own.has(address))
+        call_hook(by, "__spbags_dies", {address, size});
+}
+
+/* Whether the function asks for iterations, sections or a single region of OpenMP. */
+static bool asks_for_parts(const Instruction &one) {
+    auto *call = dyn_cast<CallBase>(&one);
+    StringRef name = call ? name_of_called(*call) : StringRef();
+    return begins_with(name, "__kmpc_dispatch_next_") || name == "__spbags_goes_on";
+}
+
 /* Whether a value serves only for the question of whether it is a constant: the program doesn't compute that. */
 static bool is_only_asked(const Value *value) {
     for (const User *by : value->users()) {
@@ -75,8 +88,10 @@ void accesses::find_in(Instruction *instruction) {
 
 void accesses::put() {
     std::vector<Instruction *> all;
-    for (Instruction &one : instructions(function))
+    for (Instruction &one : instructions(function)) {
         all.push_back(&one);
+        has_parts |= asks_for_parts(one);
+    }
     for (Instruction *one : all)
         find_in(one);
 }

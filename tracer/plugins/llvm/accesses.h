@@ -29,6 +29,8 @@ class accesses {
                       bool is_stored);
     /* That an instruction accesses memory which can't be told. */
     void note_unseen(llvm::Instruction *by);
+    /* That a variable of an iteration or the like has no life any more. */
+    void note_end(llvm::Instruction *by, llvm::Value *address, llvm::Value *size);
     void put();
     llvm::Value *number(uint64_t value) const { return number_of(module, value); }
 
@@ -38,6 +40,7 @@ class accesses {
 
   private:
     own_memory own;
+    bool has_parts = false;
 
     void find_in(llvm::Instruction *instruction);
 };

@@ -106,6 +106,9 @@ static void find_in_intrinsic(accesses &all, IntrinsicInst *call) {
         all.note(call, call->getArgOperand(1), list, false);
         all.note(call, call->getArgOperand(0), list, true);
         break;
+    case Intrinsic::lifetime_end:
+        all.note_end(call, call->getArgOperand(1), call->getArgOperand(0));
+        break;
     case Intrinsic::eh_sjlj_setjmp:
         all.note(call, call->getArgOperand(0), jump_buffer, true);
         break;

@@ -2,6 +2,10 @@
 
 using namespace llvm;
 
+StringRef name_of_called(const CallBase &call) {
+    return call.getCalledFunction() ? call.getCalledFunction()->getName() : StringRef();
+}
+
 /* What a use makes of an address. */
 enum class use { PLAIN, AGAIN, SHARED };
 
@@ -11,8 +15,34 @@ static bool is_about_life(const CallBase &call) {
 
 /* The runtime writes there where a loop's iterations begin and end, and keeps no address. */
 static bool asks_for_iterations(const CallBase &call) {
-    StringRef name = call.getCalledFunction() ? call.getCalledFunction()->getName() : StringRef();
+    StringRef name = name_of_called(call);
     return begins_with(name, "__kmpc_dispatch_next_") || begins_with(name, "__kmpc_for_static_init_");
+}
+
+static bool is_stored_to(const Use &address) {
+    return isa<StoreInst>(address.getUser()) && address.getOperandNo() == StoreInst::getPointerOperandIndex();
+}
+
+/* Whether this is a list of sums: of a thread's own variables, which it combines with others' by a call of the runtime,
+   and no address is taken out of that. */
+static bool is_list_of_sums(const Value *address) {
+    bool is_given = false;
+    std::vector<const Value *> left = {getUnderlyingObject(address)};
+    while (!left.empty()) {
+        const Value *value = left.back();
+        left.pop_back();
+        for (const Use &one : value->uses()) {
+            const User *user = one.getUser();
+            const auto *call = dyn_cast<CallBase>(user);
+            const bool gives = call && begins_with(name_of_called(*call), "__kmpc_reduce");
+            is_given |= gives;
+            if (isa<GetElementPtrInst>(user) || isa<BitCastInst>(user))
+                left.push_back(user);
+            else if (!gives && !is_stored_to(one) && !(call && (is_about_life(*call) || !called_hook(*call).empty())))
+                return false;
+        }
+    }
+    return is_given && isa<AllocaInst>(getUnderlyingObject(address));
 }
 
 static use use_of(const Use &address) {
@@ -20,7 +50,8 @@ static use use_of(const Use &address) {
     if (isa<LoadInst>(user) || isa<ICmpInst>(user))
         return use::PLAIN;
     if (isa<StoreInst>(user))
-        return address.getOperandNo() == StoreInst::getPointerOperandIndex() ? use::PLAIN : use::SHARED;
+        return is_stored_to(address) || is_list_of_sums(cast<StoreInst>(user)->getPointerOperand()) ? use::PLAIN
+                                                                                                    : use::SHARED;
     if (isa<GetElementPtrInst>(user) || isa<BitCastInst>(user) || isa<PHINode>(user) || isa<SelectInst>(user))
         return use::AGAIN;
     if (auto *call = dyn_cast<CallBase>(user))
@@ -49,9 +80,15 @@ static bool stays(const Value *address) {
     return true;
 }
 
+/* A thread's own, by which std::call_once knows what to call. */
+static bool is_of_call_once(const GlobalVariable *global) {
+    return global->isThreadLocal() && begins_with(global->getName(), "_ZSt") &&
+           global->getName().contains("__once_call");
+}
+
 static bool is_own(const Value *base) {
     if (auto *global = dyn_cast<GlobalVariable>(base))
-        return global->isConstant();
+        return global->isConstant() || is_of_call_once(global);
     auto *argument = dyn_cast<Argument>(base);
     return (isa<AllocaInst>(base) || (argument && argument->hasByValAttr())) && stays(base);
 }
@@ -69,8 +106,8 @@ void own_drop(Function &function) {
     std::vector<Instruction *> needless;
     for (Instruction &one : instructions(function)) {
         StringRef name = called_hook(one);
-        bool is_access =
-            begins_with(name, "__tsan_read") || begins_with(name, "__tsan_write") || name == "__spbags_argument";
+        bool is_access = begins_with(name, "__tsan_read") || begins_with(name, "__tsan_write") ||
+                         name == "__spbags_argument" || name == "__spbags_dies";
         if (is_access && own.has(cast<CallInst>(one).getArgOperand(0)))
             needless.push_back(&one);
     }

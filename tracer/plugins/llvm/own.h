@@ -5,6 +5,9 @@
 
 #include "hooks.h"
 
+/* The name of the function that is called, if it has one. */
+llvm::StringRef name_of_called(const llvm::CallBase &call);
+
 class own_memory {
   public:
     /* Whether this address is in such memory, or in a constant. */

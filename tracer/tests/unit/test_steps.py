@@ -33,8 +33,6 @@ class TakenTest(unittest.TestCase):
             (PARALLEL_LOOP, Target(False, False, False, warns=False), []),
             ("int (*f)(int) __attribute__((const));\n", C, []),
             ("int (*f)(int) __attribute__((const));\n", CPLUSPLUS, ["attributes"]),
-            ("extern template class basic_string<char>;\n", C, []),
-            ("extern template class basic_string<char>;\n", CPLUSPLUS, ["strings"]),
             ("int _Hyperobject(a, b) sum;\nvoid f(void) { _Cilk_sync; }\n", C, ["reducers", "Cilk"]),
         ):
             with self.subTest(text):
@@ -65,12 +63,6 @@ class TakenTest(unittest.TestCase):
         for text, target, wanted in ((loop, C, True), (sync, C, False), (loop, CLANG, False), (loop, CPLUSPLUS, False)):
             with self.subTest(text):
                 self.assertEqual(wanted, steps.has_tasks(steps.with_spawns(OWN + text, target)[0]))
-
-    def test_strings(self) -> None:
-        """The program may say of its own instances what it wants."""
-        declared = "extern template class basic_string<char>;\n"
-        made, _ = steps.without_instances(SYSTEM + declared + '# 2 "own.cpp" 2\n' + declared, CPLUSPLUS)
-        self.assertEqual(SYSTEM + "\n" + '# 2 "own.cpp" 2\n' + declared, made)
 
 
 class AssemblyTest(unittest.TestCase):

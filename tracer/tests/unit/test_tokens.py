@@ -9,7 +9,7 @@ import unittest
 sys.dont_write_bytecode = True
 sys.path.insert(0, os.path.dirname(os.path.dirname(os.path.realpath(__file__))))
 import cases
-from compile.line_markers import Files
+from line_markers import Files
 from tokens import (
     arguments_of,
     blanked,
@@ -48,7 +48,7 @@ class TokensTest(unittest.TestCase):
 
     def test_places(self) -> None:
         """Each token has its line of the program, and knows a header of the system."""
-        found = {token.text: (token.place(), bool(token.system)) for token in tokens_of(MARKED)}
+        found = {token.text: (token.place(), token.is_of_system()) for token in tokens_of(MARKED)}
         self.assertEqual(
             {"one": ("own.c:1", False), "system": ("/usr/include/x.h:1", True), "three": ("own.c:3", False)},
             {name: found[name] for name in ("one", "system", "three")},

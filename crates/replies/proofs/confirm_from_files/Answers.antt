@@ -1,5 +1,5 @@
-use Rattle.replies.proofs.Common.{ℕ, sym, ap, ◌∙◌, subst, inl, inr, reader_remaining, FnReturnsAt, ◌⇝◌, HasConfirmedOpened, known_bytes}
-use Rattle.replies.proofs.Named.{not_opened, report_unread, answered_both, nothing_ahead, is_untried}
+use Rattle.replies.proofs.Common.{ap, inl, inr, FnReturnsAt, known_bytes}
+use Rattle.replies.proofs.Named.{not_opened, answered_both, is_untried}
 use Rattle.replies.proofs.confirm_from_files.Goals as goal
 
 pub returns-in_default : goal.returns-in_default
@@ -8,17 +8,10 @@ returns-in_default g c = inl (not_opened _ (rw c.as_str.ensures.value at c.in_de
 pub returns-in_default-open : goal.returns-in_default-open
 returns-in_default-open g c = inr (inl (not_opened _ (rw c.as_str-2.ensures.value at c.in_default-open.ensures.cannot) c.cannot_open-in_default-open.ensures.two c.cannot_open-in_default-open.ensures.said))
 
-pub returns-in_default-with_capacity : goal.returns-in_default-with_capacity
-returns-in_default-with_capacity g c =
-    let known = known_bytes g.F.Read.remaining in
-    let P : ℕ → Type 0 = λ status. HasConfirmedOpened (FnReturnsAt g.O.Fn c.args.opener.now) known c.args.confirm.now (g.W.Sink.state c.args.out.now ⇝ g.W.Sink.state c.refuse.new.out) (g.E.Sink.state c.args.err.now ⇝ g.E.Sink.state c.refuse.new.err) status in
-    let given = c.refuse.ensures.refused in
-    inr (inr (subst P (sym given.0) (report_unread (FnReturnsAt g.O.Fn c.args.opener.now) known c.args.confirm.now c.in-Some.trace c.in-Some-open.report (rw c.as_str.ensures.value at c.in-Some.ensures.opened) (rw c.as_str-2.ensures.value at c.in-Some-open.ensures.opened) given.1 given.2)))
-
 pub returns : goal.returns
 returns g c =
     let known = known_bytes g.F.Read.remaining in
-    let trace = is_untried (ap (reader_remaining known) c.new-trace.ensures.device ∙ nothing_ahead known c.in-Ok.ahead c.in-Some.trace c.in-Ok.ensures.inner c.in-Ok.ensures.empty c.in-Ok.ensures.capacity) c.new-trace.ensures.none in
+    let trace = is_untried (ap known c.new-trace.ensures.device) c.new-trace.ensures.none in
     let report = is_untried (ap known c.new-report.ensures.device) c.new-report.ensures.none in
     inr (inr (answered_both (FnReturnsAt g.O.Fn c.args.opener.now) known c.args.confirm.now c.in-Some.trace c.in-Some-open.report c.answer_confirm.result _ _ _ _
     (rw c.as_str.ensures.value at c.in-Some.ensures.opened) (rw c.as_str-2.ensures.value at c.in-Some-open.ensures.opened) trace report c.answer_confirm.ensures))

@@ -113,7 +113,7 @@ void __kmpc_end_masked(CLANG) { IGNORE; }
 
 int32_t __kmpc_single(CLANG) {
     IGNORE;
-    return barriers_does_single();
+    return barriers_does_single(CODE);
 }
 void __kmpc_end_single(CLANG) { IGNORE; }
 

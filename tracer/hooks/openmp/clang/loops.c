@@ -42,9 +42,9 @@ static void end_shares(uintptr_t stack_pointer, uintptr_t code) {
         } \
         const struct loop *loop = scopes_thread()->loop; \
         *first = (TYPE)begin; \
-        *last = (TYPE)(loop->start + (loop->begun - 1) * loop->step); \
+        *last = (TYPE)(loop->start + loops_newest(loop) * loop->step); \
         *step = (STEP)loop->step; \
-        *is_last = loop->begun == loop->count; \
+        *is_last = loops_newest(loop) + 1 == loop->count; \
         return 1; \
     } \
     void __kmpc_dispatch_fini_##SUFFIX(CLANG) { IGNORE; }
@@ -61,14 +61,14 @@ void __kmpc_for_static_init_4(CLANG, int32_t schedule, int32_t *is_last, int32_t
     loops_begin(loops_sections((unsigned)(*last + 1)));
     struct scope *thread = scopes_thread();
     struct loop *loop = thread->loop;
+    shares_come_to_loop(thread, CODE);
     uint64_t size = shares_left(thread);
-    loop->code = loop->code ? loop->code : CODE;
     loop->has_late_last = bodies.newest->kind == BODY_LAST;
-    *first = (int32_t)loop->begun;
-    *last = *first + (int32_t)size - 1;
     loop->begun += size;
+    *last = (int32_t)loops_newest(loop);
+    *first = *last - (int32_t)size + 1;
     thread->taken += size;
-    *is_last = size > 0 && loop->begun == loop->count;
+    *is_last = size > 0 && loops_newest(loop) + 1 == loop->count;
     if (loop->in_blocks)
         shares_note_long(thread, size);
 }

@@ -1,13 +1,13 @@
+use Rattle.std.proofs.Common.{rules}
 use Rattle.blocks.proofs.Common.{◌≡◌, ◌∙◌, suc, ◌+◌, ◌<◌, ◌∷◌, ◌++◌, take, drop, set, get_or, length, length-set, add-one, Some, cond, ap, sym, arith, get_or_read, get_or-take, drop-cons, has, names_at, no_group, IsAlike, Group}
 use Rattle.blocks.proofs.Puts.{with_units, without_units, grown_behind, put_before, parted, gone, none_later, drop_set, behind_all}
-use Rattle.blocks.proofs.Entries.{on_err}
 use Rattle.blocks.proofs.groups.rename.Goals as goal
 
 pub put-requires-clause-apart : goal.put-requires-clause-apart
 put-requires-clause-apart c i h e = none_later c.args.groups.now.items (c.args.index + 1) c.args.from i (omega (arith, c.requires.within.0)) (c.requires.last i h e)
 
 pub returns-in_err-put-clause-err : goal.returns-in_err-put-clause-err
-returns-in_err-put-clause-err c = on_err c.from_residual.result _ c.in_err-put.ensures.err
+returns-in_err-put-clause-err c = search rules
 
 pub returns-then-inside-units-clause-names : goal.returns-then-inside-units-clause-names
 returns-then-inside-units-clause-names c i h =

@@ -1,6 +1,19 @@
-use Rattle.detect.proofs.Common.{length, length-append, [], ◌∷◌, sym, ap, ◌∙◌, arith, nil_from_length, takers_of, counts_of}
+use Rattle.detect.proofs.Common.{rules, refl, length, length-append, [], ◌∷◌, sym, ap, ◌∙◌, arith, nil_from_length, takers_of, counts_of}
 use Rattle.detect.proofs.WorkersDone.{split_more, gone_through, counts_more, lanes_more}
 use Rattle.detect.proofs.closing.into_run.Goals as goal
+
+pub loop-worked-init : goal.loop-worked-init
+loop-worked-init g c =
+    let room = c.requires.room in
+    record {
+      split = search rules;
+      taken = nil_from_length _ (sym c.args.lists.taken.ok.0 ∙ room.no_taken);
+      lanes = nil_from_length _ (sym c.args.lists.lanes.ok.0 ∙ room.no_lanes);
+      taken_count = search rules;
+      lane_count = search rules;
+      taken_room = refl;
+      lane_room = refl;
+    }
 
 pub loop-worked-preserved : goal.loop-worked-preserved
 loop-worked-preserved g c =

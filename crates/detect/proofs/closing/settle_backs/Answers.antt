@@ -14,16 +14,16 @@ loop-shard-preserved g c =
     let t = c.index_mut.result.now in
     let w = c.index_mut-in-loop-shard.result.now in
     record {
-      same = same_set c.args.workers.now.items c.loop-shard.workers.items c.loop-shard.shard w _ c.index_mut-in-loop-shard.ensures.value refl refl c.settle.ensures.put c.settle.ensures.lane.1.0 refl i.same;
+      same = same_set c.args.workers.now.items c.loop-shard.workers.items c.loop-shard.shard w _ c.index_mut-in-loop-shard.ensures.value refl refl c.settle.ensures.compared.put c.settle.ensures.compared.lane.1.0 refl i.same;
       takers = map-set_same (λ (x : Worked g.row.S.Denot g.row.S-Hasher.Denot). x.taker) c.loop-shard.workers.items c.loop-shard.shard _ w (ap (λ (x : Worked g.row.S.Denot g.row.S-Hasher.Denot). x.taker) c.index_mut-in-loop-shard.ensures.value) ∙ i.takers;
-      taken = map-set_same (λ t. t.taken) c.loop-shard.backs.items c.loop-shard.shard c.settle.new.self t (c.settle.ensures.taken ∙ ap (λ t. t.taken) c.index_mut.ensures.value) ∙ i.taken;
-      lanes = map-set_same (λ t. t.lane) c.loop-shard.backs.items c.loop-shard.shard c.settle.new.self t (c.settle.ensures.lane.0.0 ∙ ap (λ t. t.lane) c.index_mut.ensures.value) ∙ i.lanes;
+      taken = map-set_same (λ t. t.taken) c.loop-shard.backs.items c.loop-shard.shard c.settle.new.self t (c.settle.ensures.compared.taken ∙ ap (λ t. t.taken) c.index_mut.ensures.value) ∙ i.taken;
+      lanes = map-set_same (λ t. t.lane) c.loop-shard.backs.items c.loop-shard.shard c.settle.new.self t (c.settle.ensures.compared.lane.0.0 ∙ ap (λ t. t.lane) c.index_mut.ensures.value) ∙ i.lanes;
       settled = λ k lt. ended_to (IsSettled (given_by c.args.backs.now.items) (given_back c.args.workers.now.items)) c.loop-shard.shard
           (settled_at (given_by c.loop-shard.backs.items) (given_by c.args.backs.now.items) (given_back c.loop-shard.workers.items) (given_back c.args.workers.now.items) c.loop-shard.shard
           t.taken c.settle.new.self.taken (put_of w.back) (put_of c.settle.new.end) i.taken i.same.backs
           (at_map (λ t. t.taken) c.loop-shard.backs.items c.loop-shard.shard t _
           (within_front (λ (x : Worked g.row.S.Denot g.row.S-Hasher.Denot). x.back.lane) (λ t. t.lane) c.loop-shard.workers.items c.loop-shard.backs.items c.loop-shard.shard (front_same _ _ _ _ c.loop-shard.invariant.same.from_shards c.loop-shard.invariant.lanes c.requires) (search rules)) c.index_mut.ensures.value)
           (at_map (λ (x : Worked g.row.S.Denot g.row.S-Hasher.Denot). put_of x.back) c.loop-shard.workers.items c.loop-shard.shard w _ (search rules) c.index_mut-in-loop-shard.ensures.value)
-          c.settle.ensures.taken c.settle.ensures.put c.settle.ensures.prefix c.settle.ensures.whole)
+          c.settle.ensures.compared.taken c.settle.ensures.compared.put c.settle.ensures.prefix c.settle.ensures.whole)
           i.settled k lt;
     }

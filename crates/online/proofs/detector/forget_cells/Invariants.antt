@@ -1,6 +1,11 @@
-use Rattle.online.proofs.Common.{◌≡◌, kept_of, last_place_of, least_count_of}
+use Rattle.online.proofs.Common.{◌≡◌, kept_of}
 use Rattle.online.proofs.Forgotten.{AreForgotten}
 use Rattle.online.proofs.detector.forget_cells.Given as goal
 
 abbrev pub invariant-loop-unit : goal.invariant-loop-unit
-invariant-loop-unit g l = AreForgotten l.first l.units l.unit (kept_of l.fn.cells) (kept_of l.cells) × (last_place_of l.cells ≡ last_place_of l.fn.cells) × (least_count_of l.cells ≡ least_count_of l.fn.cells)
+invariant-loop-unit g l = record {
+  cells : AreForgotten l.first l.units l.unit (kept_of l.fn.sp_bags.shadow) (kept_of l.sp_bags.shadow);
+  bags : l.sp_bags.bags ≡ l.fn.sp_bags.bags;
+  last_place : l.sp_bags.last_place ≡ l.fn.sp_bags.last_place;
+  ended : l.sp_bags.ended ≡ l.fn.sp_bags.ended;
+}

@@ -36,7 +36,6 @@ pub put-requires-after_bounds : goal.put-requires-after_bounds
 put-requires-after_bounds c κs =
     let s = c.lanes.self-inside in
     let i = c.lanes.invariant in
-    let p = c.args.placed in
     let among : c.lanes.lane < length (puts s.senders.items) = omega (arith, i.within, i.counted) in
     ap has_mark (sym (put_at s.senders.items c.lanes.lane _ among c.index_mut.ensures.value))
     ∙ unmarked_at (puts s.senders.items) s.marked c.lanes.lane (omega (arith, i.unmarked)) among s.kept.marks
@@ -46,12 +45,10 @@ invariant_of-self-inside c =
     let s = c.lanes.self-inside in
     let i = c.lanes.invariant in
     let p = c.args.placed in
-    let among : c.lanes.lane < length (puts s.senders.items) = omega (arith, i.within, i.counted) in
-    let none = put_err s.senders.items c.lanes.lane _ c.put.new.self p c.put.result c.is_err.result among c.index_mut.ensures.value c.put.ensures.lane c.is_err.ensures.value c.if-is_err.true c.put.ensures.full c.put.ensures.no_room c.put.ensures.refusals in
+    let none = put_err s.senders.items c.lanes.lane _ _ c.put.new.self p c.put.result c.is_err.result i.within i.counted c.index_mut.ensures.value c.is_err.ensures.value c.if-is_err.true c.put.ensures.full in
     let kept = router_same (puts s.senders.items) _ s.pending s.next s.marked none.same s.kept in
-    let N : ℕ → Type 0 = λ n. goes_placed c.lanes.lane n p ≡ true in
     let count = i.counted ∙ sym (ap length none.same) in (
-      router_aim _ s.pending (Some p) s.next c.lanes.lane s.marked kept (omega (arith, count, i.within)) (aimed_at _ c.lanes.lane (Some p) p refl (subst N count i.aimed)) (λ q e. i.unmarked),
+      router_aim _ s.pending (Some p) s.next c.lanes.lane s.marked kept (omega (arith, count, i.within)) (aimed_at _ c.lanes.lane (Some p) p refl (subst (λ (n : ℕ). goes_placed c.lanes.lane n p ≡ true) count i.aimed)) (λ q e. i.unmarked),
       (s.within, (s.no_ends, (s.room, record {}))),
     )
 
@@ -59,9 +56,7 @@ pub returns-then-is_err-clause-on : goal.returns-then-is_err-clause-on
 returns-then-is_err-clause-on c =
     let s = c.lanes.self-inside in
     let i = c.lanes.invariant in
-    let p = c.args.placed in
-    let among : c.lanes.lane < length (puts s.senders.items) = omega (arith, i.within, i.counted) in
-    let none = put_err s.senders.items c.lanes.lane _ c.put.new.self p c.put.result c.is_err.result among c.index_mut.ensures.value c.put.ensures.lane c.is_err.ensures.value c.if-is_err.true c.put.ensures.full c.put.ensures.no_room c.put.ensures.refusals in
+    let none = put_err s.senders.items c.lanes.lane _ _ c.put.new.self c.args.placed c.put.result c.is_err.result i.within i.counted c.index_mut.ensures.value c.is_err.ensures.value c.if-is_err.true c.put.ensures.full in
     record { lanes = none.on ∙ i.same_lanes; capacities = none.holds ∙ i.same_capacities; count = ap length none.same ∙ i.as_many }
 
 pub returns-then-is_err-clause-stuck : goal.returns-then-is_err-clause-stuck
@@ -69,11 +64,10 @@ returns-then-is_err-clause-stuck c _ =
     let s = c.lanes.self-inside in
     let i = c.lanes.invariant in
     let p = c.args.placed in
-    let among : c.lanes.lane < length (puts s.senders.items) = omega (arith, i.within, i.counted) in
-    let none = put_err s.senders.items c.lanes.lane _ c.put.new.self p c.put.result c.is_err.result among c.index_mut.ensures.value c.put.ensures.lane c.is_err.ensures.value c.if-is_err.true c.put.ensures.full c.put.ensures.no_room c.put.ensures.refusals in
+    let none = put_err s.senders.items c.lanes.lane _ _ c.put.new.self p c.put.result c.is_err.result i.within i.counted c.index_mut.ensures.value c.is_err.ensures.value c.if-is_err.true c.put.ensures.full in
     has_stuck c.args.self.now _ p c.requires refl i.unmarked (ap length none.same ∙ i.as_many)
     record {
-      within = omega (arith, among, ap length none.same);
+      within = omega (arith, none.among, ap length none.same);
       no_room = none.knows;
       full = omega (arith, none.full, none.knows, ap (λ (l : List ℕ). slice_index_or l c.lanes.lane 0) none.holds, ap (λ (l : List Items). length (put_on l c.lanes.lane)) none.same);
     }
@@ -88,12 +82,8 @@ invariant_of-self-inside-else-is_err c =
     let s = c.lanes.self-inside in
     let i = c.lanes.invariant in
     let p = c.args.placed in
-    let among : c.lanes.lane < length (puts s.senders.items) = omega (arith, i.within, i.counted) in
-    let was = put_ok s.senders.items c.lanes.lane _ c.put.new.self p c.put.result c.is_err.result among c.index_mut.ensures.value c.put.ensures.lane c.is_err.ensures.value c.if-is_err.false c.put.ensures.ok c.put.ensures.refusals in
-    let long = ap length was.more ∙ length-set (puts s.senders.items) c.lanes.lane (put_on (puts s.senders.items) c.lanes.lane ++ One p ∷ []) in
-    let N : ℕ → Type 0 = λ n. goes_placed c.lanes.lane n p ≡ true in
-    let goes = subst N i.counted i.aimed in
-    (router_put (puts s.senders.items) _ s.pending s.next s.marked c.lanes.lane p was.more among (omega (arith, i.unmarked)) s.kept, (s.within, (s.no_ends, (s.room, record {}))))
+    let was = put_ok s.senders.items c.lanes.lane _ _ c.put.new.self p c.put.result c.is_err.result i.within i.counted c.index_mut.ensures.value c.is_err.ensures.value c.if-is_err.false c.put.ensures.ok in
+    (router_put (puts s.senders.items) _ s.pending s.next s.marked c.lanes.lane p was.more was.among (omega (arith, i.unmarked)) s.kept, (s.within, (s.no_ends, (s.room, record {}))))
 
 pub lane_after-requires-clause-within : goal.lane_after-requires-clause-within
 lane_after-requires-clause-within c = c.lanes.invariant.within
@@ -109,53 +99,41 @@ lanes-preserved c =
     let s = c.lanes.self-inside in
     let i = c.lanes.invariant in
     let p = c.args.placed in
-    let among : c.lanes.lane < length (puts s.senders.items) = omega (arith, i.within, i.counted) in
-    let was = put_ok s.senders.items c.lanes.lane _ c.put.new.self p c.put.result c.is_err.result among c.index_mut.ensures.value c.put.ensures.lane c.is_err.ensures.value c.if-is_err.false c.put.ensures.ok c.put.ensures.refusals in
-    let long = ap length was.more ∙ length-set (puts s.senders.items) c.lanes.lane (put_on (puts s.senders.items) c.lanes.lane ++ One p ∷ []) in
-    let N : ℕ → Type 0 = λ n. goes_placed c.lanes.lane n p ≡ true in
-    let goes = subst N i.counted i.aimed in
+    let was = put_ok s.senders.items c.lanes.lane _ _ c.put.new.self p c.put.result c.is_err.result i.within i.counted c.index_mut.ensures.value c.is_err.ensures.value c.if-is_err.false c.put.ensures.ok in
+    let goes = subst (λ (n : ℕ). goes_placed c.lanes.lane n p ≡ true) i.counted i.aimed in
     record {
       within = c.in-Some.ensures.some.1;
-      counted = i.counted ∙ sym long;
+      counted = i.counted ∙ sym was.as_many;
       aimed = c.in-Some.ensures.some.2;
       sent = λ w h.
           let A : List Items → Type 0 = λ l. OnPuts w c.in-Some.next (Some p) 0 l in
           let I : ℕ → Type 0 = λ j. OnPuts w j (Some p) 0 (with_put (puts s.senders.items) c.lanes.lane (One p)) in
-          subst A (sym was.more) (subst I (sym c.in-Some.ensures.some.0) (sent-next (puts s.senders.items) w c.lanes.lane p 0 refl among goes (i.sent w h)));
+          subst A (sym was.more) (subst I (sym c.in-Some.ensures.some.0) (sent-next (puts s.senders.items) w c.lanes.lane p 0 refl was.among goes (i.sent w h)));
       idle = i.idle;
       unmarked = i.unmarked;
       none_refused = was.counts ∙ i.none_refused;
       same_lanes = was.on ∙ i.same_lanes;
       same_capacities = was.holds ∙ i.same_capacities;
-      as_many = long ∙ i.as_many;
+      as_many = was.as_many ∙ i.as_many;
     }
 
 pub returns-in-None-clause-on : goal.returns-in-None-clause-on
 returns-in-None-clause-on c =
     let s = c.lanes.self-inside in
     let i = c.lanes.invariant in
-    let p = c.args.placed in
-    let among : c.lanes.lane < length (puts s.senders.items) = omega (arith, i.within, i.counted) in
-    let was = put_ok s.senders.items c.lanes.lane _ c.put.new.self p c.put.result c.is_err.result among c.index_mut.ensures.value c.put.ensures.lane c.is_err.ensures.value c.if-is_err.false c.put.ensures.ok c.put.ensures.refusals in
-    let long = ap length was.more ∙ length-set (puts s.senders.items) c.lanes.lane (put_on (puts s.senders.items) c.lanes.lane ++ One p ∷ []) in
-    let N : ℕ → Type 0 = λ n. goes_placed c.lanes.lane n p ≡ true in
-    let goes = subst N i.counted i.aimed in
-    record { lanes = was.on ∙ i.same_lanes; capacities = was.holds ∙ i.same_capacities; count = long ∙ i.as_many }
+    let was = put_ok s.senders.items c.lanes.lane _ _ c.put.new.self c.args.placed c.put.result c.is_err.result i.within i.counted c.index_mut.ensures.value c.is_err.ensures.value c.if-is_err.false c.put.ensures.ok in
+    record { lanes = was.on ∙ i.same_lanes; capacities = was.holds ∙ i.same_capacities; count = was.as_many ∙ i.as_many }
 
 pub returns-in-None-clause-sent : goal.returns-in-None-clause-sent
 returns-in-None-clause-sent c =
     let s = c.lanes.self-inside in
     let i = c.lanes.invariant in
     let p = c.args.placed in
-    let among : c.lanes.lane < length (puts s.senders.items) = omega (arith, i.within, i.counted) in
-    let was = put_ok s.senders.items c.lanes.lane _ c.put.new.self p c.put.result c.is_err.result among c.index_mut.ensures.value c.put.ensures.lane c.is_err.ensures.value c.if-is_err.false c.put.ensures.ok c.put.ensures.refusals in
-    let long = ap length was.more ∙ length-set (puts s.senders.items) c.lanes.lane (put_on (puts s.senders.items) c.lanes.lane ++ One p ∷ []) in
-    let N : ℕ → Type 0 = λ n. goes_placed c.lanes.lane n p ≡ true in
-    let goes = subst N i.counted i.aimed in
-    let L : ℕ → Type 0 = λ n. (k : ℕ) → c.lanes.lane < k → k < n → goes_placed k n p ≡ false in
-    has_sent_record c.args.self.now _ p c.requires record { none_pending = i.idle; none_marked = i.unmarked } (long ∙ i.as_many)
+    let was = put_ok s.senders.items c.lanes.lane _ _ c.put.new.self p c.put.result c.is_err.result i.within i.counted c.index_mut.ensures.value c.is_err.ensures.value c.if-is_err.false c.put.ensures.ok in
+    let goes = subst (λ (n : ℕ). goes_placed c.lanes.lane n p ≡ true) i.counted i.aimed in
+    has_sent_record c.args.self.now _ p c.requires record { none_pending = i.idle; none_marked = i.unmarked } (was.as_many ∙ i.as_many)
     (λ w h.
     let A : List Items → Type 0 = λ l. OnPuts (w ++ p ∷ []) s.next s.pending s.marked l in
     let O : Option Placed → Type 0 = λ o. OnPuts (w ++ p ∷ []) s.next o s.marked (with_put (puts s.senders.items) c.lanes.lane (One p)) in
     let M : ℕ → Type 0 = λ m. OnPuts (w ++ p ∷ []) s.next None m (with_put (puts s.senders.items) c.lanes.lane (One p)) in
-    subst A (sym was.more) (subst O (sym i.idle) (subst M (sym i.unmarked) (sent-last (puts s.senders.items) w c.lanes.lane p 0 refl among goes (subst L i.counted c.in-None.ensures.none) (i.sent w h)))))
+    subst A (sym was.more) (subst O (sym i.idle) (subst M (sym i.unmarked) (sent-last (puts s.senders.items) w c.lanes.lane p 0 refl was.among goes (subst (λ (n : ℕ). (k : ℕ) → c.lanes.lane < k → k < n → goes_placed k n p ≡ false) i.counted c.in-None.ensures.none) (i.sent w h)))))

@@ -13,19 +13,19 @@ put-requires-after_bounds c κs =
 pub invariant_of-self-inside : goal.invariant_of-self-inside
 invariant_of-self-inside c =
     let s = c.self.inside in
-    let none = put_err s.senders.items s.next _ c.put.new.self c.in-Some.placed c.put.result c.is_err.result s.kept.next_within c.index_mut.ensures.value c.put.ensures.lane c.is_err.ensures.value c.if-is_err.true c.put.ensures.full c.put.ensures.no_room c.put.ensures.refusals in
+    let none = put_err s.senders.items s.next _ _ c.put.new.self c.in-Some.placed c.put.result c.is_err.result s.kept.next_within refl c.index_mut.ensures.value c.is_err.ensures.value c.if-is_err.true c.put.ensures.full in
     (router_same (puts s.senders.items) _ s.pending s.next s.marked none.same s.kept, (s.within, (s.no_ends, (s.room, record {}))))
 
 pub returns-then-is_err-clause-goes_on : goal.returns-then-is_err-clause-goes_on
 returns-then-is_err-clause-goes_on c =
     let s = c.self.inside in
-    let none = put_err s.senders.items s.next _ c.put.new.self c.in-Some.placed c.put.result c.is_err.result s.kept.next_within c.index_mut.ensures.value c.put.ensures.lane c.is_err.ensures.value c.if-is_err.true c.put.ensures.full c.put.ensures.no_room c.put.ensures.refusals in
+    let none = put_err s.senders.items s.next _ _ c.put.new.self c.in-Some.placed c.put.result c.is_err.result s.kept.next_within refl c.index_mut.ensures.value c.is_err.ensures.value c.if-is_err.true c.put.ensures.full in
     over_view HasGoneOn _ _ _ c.self.view_is (gone_same _ _ (unchanged _ _ none.on none.holds none.same refl refl refl))
 
 pub returns-then-is_err-clause-blocked : goal.returns-then-is_err-clause-blocked
 returns-then-is_err-clause-blocked c =
     let s = c.self.inside in
-    let none = put_err s.senders.items s.next _ c.put.new.self c.in-Some.placed c.put.result c.is_err.result s.kept.next_within c.index_mut.ensures.value c.put.ensures.lane c.is_err.ensures.value c.if-is_err.true c.put.ensures.full c.put.ensures.no_room c.put.ensures.refusals in
+    let none = put_err s.senders.items s.next _ _ c.put.new.self c.in-Some.placed c.put.result c.is_err.result s.kept.next_within refl c.index_mut.ensures.value c.is_err.ensures.value c.if-is_err.true c.put.ensures.full in
     over_view (λ o n. (s.next ≡ o.next) × HasBlocked o n s.next) _ _ _ c.self.view_is (
       refl,
       record {
@@ -41,34 +41,33 @@ returns-then-is_err-clause-blocked c =
 pub invariant_of-self-inside-in-Some-lane_after : goal.invariant_of-self-inside-in-Some-lane_after
 invariant_of-self-inside-in-Some-lane_after c =
     let s = c.self.inside in
-    let was = put_ok s.senders.items s.next _ c.put.new.self c.in-Some.placed c.put.result c.is_err.result s.kept.next_within c.index_mut.ensures.value c.put.ensures.lane c.is_err.ensures.value c.if-is_err.false c.put.ensures.ok c.put.ensures.refusals in
+    let was = put_ok s.senders.items s.next _ _ c.put.new.self c.in-Some.placed c.put.result c.is_err.result s.kept.next_within refl c.index_mut.ensures.value c.is_err.ensures.value c.if-is_err.false c.put.ensures.ok in
     let kept = router_put (puts s.senders.items) _ s.pending s.next s.marked s.next c.in-Some.placed was.more s.kept.next_within (omega (arith, s.kept.unmarked c.in-Some.placed c.in-Some.is)) s.kept in
-    let N : ℕ → Type 0 = λ n. goes_placed c.in-Some-lane_after.lane n c.in-Some.placed ≡ true in
     let old : c.len.result ≡ length (puts s.senders.items) = omega (arith, c.len.ensures, puts_counted s.senders) in
-    let count = old ∙ sym (ap length was.more ∙ length-set (puts s.senders.items) s.next (put_on (puts s.senders.items) s.next ++ One c.in-Some.placed ∷ [])) in (
+    let count = old ∙ sym was.as_many in (
       router_aim _ s.pending s.pending s.next c.in-Some-lane_after.lane s.marked kept (omega (arith, count, c.in-Some-lane_after.ensures.some.1))
-          (aimed_at _ c.in-Some-lane_after.lane s.pending c.in-Some.placed c.in-Some.is (subst N count c.in-Some-lane_after.ensures.some.2)) s.kept.unmarked,
+          (aimed_at _ c.in-Some-lane_after.lane s.pending c.in-Some.placed c.in-Some.is (subst (λ (n : ℕ). goes_placed c.in-Some-lane_after.lane n c.in-Some.placed ≡ true) count c.in-Some-lane_after.ensures.some.2)) s.kept.unmarked,
       (s.within, (s.no_ends, (s.room, record {}))),
     )
 
 pub invariant_of-self-inside-in-None : goal.invariant_of-self-inside-in-None
 invariant_of-self-inside-in-None c =
     let s = c.self.inside in
-    let was = put_ok s.senders.items s.next _ c.put.new.self c.in-Some.placed c.put.result c.is_err.result s.kept.next_within c.index_mut.ensures.value c.put.ensures.lane c.is_err.ensures.value c.if-is_err.false c.put.ensures.ok c.put.ensures.refusals in
+    let was = put_ok s.senders.items s.next _ _ c.put.new.self c.in-Some.placed c.put.result c.is_err.result s.kept.next_within refl c.index_mut.ensures.value c.is_err.ensures.value c.if-is_err.false c.put.ensures.ok in
     let kept = router_put (puts s.senders.items) _ s.pending s.next s.marked s.next c.in-Some.placed was.more s.kept.next_within (omega (arith, s.kept.unmarked c.in-Some.placed c.in-Some.is)) s.kept in
     (router_aim _ s.pending None s.next s.next s.marked kept kept.next_within (λ p e. absurd (cc)) (λ p e. absurd (cc)), (s.within, (s.no_ends, (s.room, record {}))))
 
 pub returns-in-Some-lane_after-clause-goes_on : goal.returns-in-Some-lane_after-clause-goes_on
 returns-in-Some-lane_after-clause-goes_on c =
     let s = c.self.inside in
-    let was = put_ok s.senders.items s.next _ c.put.new.self c.in-Some.placed c.put.result c.is_err.result s.kept.next_within c.index_mut.ensures.value c.put.ensures.lane c.is_err.ensures.value c.if-is_err.false c.put.ensures.ok c.put.ensures.refusals in
+    let was = put_ok s.senders.items s.next _ _ c.put.new.self c.in-Some.placed c.put.result c.is_err.result s.kept.next_within refl c.index_mut.ensures.value c.is_err.ensures.value c.if-is_err.false c.put.ensures.ok in
     let old : c.len.result ≡ length (puts s.senders.items) = omega (arith, c.len.ensures, puts_counted s.senders) in
     over_view HasGoneOn _ _ _ c.self.view_is (gone_next _ _ c.in-Some.placed c.len.result c.in-Some.is record { on_lanes = was.on; holds = was.holds; more = was.more } old refl c.in-Some-lane_after.ensures.some.0 refl)
 
 pub returns-in-Some-lane_after-clause-put : goal.returns-in-Some-lane_after-clause-put
 returns-in-Some-lane_after-clause-put c =
     let s = c.self.inside in
-    let was = put_ok s.senders.items s.next _ c.put.new.self c.in-Some.placed c.put.result c.is_err.result s.kept.next_within c.index_mut.ensures.value c.put.ensures.lane c.is_err.ensures.value c.if-is_err.false c.put.ensures.ok c.put.ensures.refusals in
+    let was = put_ok s.senders.items s.next _ _ c.put.new.self c.in-Some.placed c.put.result c.is_err.result s.kept.next_within refl c.index_mut.ensures.value c.is_err.ensures.value c.if-is_err.false c.put.ensures.ok in
     let old : c.len.result ≡ length (puts s.senders.items) = omega (arith, c.len.ensures, puts_counted s.senders) in
     over_view (λ o n. (p : Placed) → o.pending ≡ Some p → HasPutNext o n p) _ _ _ c.self.view_is (for_pending _ _ c.in-Some.placed c.in-Some.is (puts_next _ _ c.in-Some.placed c.len.result c.in-Some.is record { on_lanes = was.on; holds = was.holds; more = was.more } old refl c.in-Some-lane_after.ensures.some.0 refl
     c.in-Some-lane_after.ensures.some.1 c.in-Some-lane_after.ensures.some.2))
@@ -76,13 +75,13 @@ returns-in-Some-lane_after-clause-put c =
 pub returns-in-None-clause-goes_on : goal.returns-in-None-clause-goes_on
 returns-in-None-clause-goes_on c =
     let s = c.self.inside in
-    let was = put_ok s.senders.items s.next _ c.put.new.self c.in-Some.placed c.put.result c.is_err.result s.kept.next_within c.index_mut.ensures.value c.put.ensures.lane c.is_err.ensures.value c.if-is_err.false c.put.ensures.ok c.put.ensures.refusals in
+    let was = put_ok s.senders.items s.next _ _ c.put.new.self c.in-Some.placed c.put.result c.is_err.result s.kept.next_within refl c.index_mut.ensures.value c.is_err.ensures.value c.if-is_err.false c.put.ensures.ok in
     let old : c.len.result ≡ length (puts s.senders.items) = omega (arith, c.len.ensures, puts_counted s.senders) in
     over_view HasGoneOn _ _ _ c.self.view_is (gone_last _ _ c.in-Some.placed c.len.result c.in-Some.is record { on_lanes = was.on; holds = was.holds; more = was.more } old refl refl refl c.in-None.ensures.none)
 
 pub returns-in-None-clause-put : goal.returns-in-None-clause-put
 returns-in-None-clause-put c =
     let s = c.self.inside in
-    let was = put_ok s.senders.items s.next _ c.put.new.self c.in-Some.placed c.put.result c.is_err.result s.kept.next_within c.index_mut.ensures.value c.put.ensures.lane c.is_err.ensures.value c.if-is_err.false c.put.ensures.ok c.put.ensures.refusals in
+    let was = put_ok s.senders.items s.next _ _ c.put.new.self c.in-Some.placed c.put.result c.is_err.result s.kept.next_within refl c.index_mut.ensures.value c.is_err.ensures.value c.if-is_err.false c.put.ensures.ok in
     let old : c.len.result ≡ length (puts s.senders.items) = omega (arith, c.len.ensures, puts_counted s.senders) in
     over_view (λ o n. (p : Placed) → o.pending ≡ Some p → HasPutNext o n p) _ _ _ c.self.view_is (for_pending _ _ c.in-Some.placed c.in-Some.is (puts_last _ _ c.in-Some.placed c.len.result c.in-Some.is record { on_lanes = was.on; holds = was.holds; more = was.more } old refl refl refl c.in-None.ensures.none))

@@ -1,6 +1,0 @@
-use Rattle.std.proofs.Common.{sym}
-use Rattle.blocks.proofs.Entries.{at_its_index}
-use Rattle.blocks.proofs.pages.Pages.look_up.Goals as goal
-
-pub returns : goal.returns
-returns g c = rw (← c.self.view_is) (at_its_index c.self.inside.map.entries c.in_ok-index.index c.args.page (sym c.in_ok-index.ensures.index))
