@@ -23,4 +23,3 @@ pub record IsSameShadow (old new : Shadow) : Type 0 where
   pub kept : (l : ℕ) → kept_of new l ≡ kept_of old l
   pub last_place : last_place_of new ≡ last_place_of old
   pub least_count : least_count_of new ≡ least_count_of old
-
