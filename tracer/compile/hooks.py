@@ -16,6 +16,8 @@ from installation import ARCHIVE, CRATES, HERE, IS_INSTALLED
 OWN = set("malloc calloc realloc free aligned_alloc memalign valloc pvalloc posix_memalign malloc_usable_size".split())
 # How the other names begin that the hooks define for programs and for the detector.
 FOR_PROGRAMS = ("_*", "GOMP_*", "omp_*", "rattle_*")
+# Where an exception of the program may leave a hook that has something to do then.
+UNWOUND = ("hooks/library/locks.c",)
 # What the objects depend on, beside the sources.
 BESIDE = ("spbags_cilk.h", "include/spbags_inside.h", "library.table", "compile/library.py", "compile/hooks.py")
 # Proves and builds the detector's library from its crate.
@@ -69,7 +71,8 @@ class Hooks:
 
     def compile_source(self, name: str) -> str:
         made = os.path.join(self.folder, name.replace("/", "-") + ".o")
-        command = [*self.compiler.command, *self.flags, f"-I{self.folder}", f"-I{HERE}/hooks", "-c"]
+        flags = [*self.flags, "-fexceptions"] if name in UNWOUND else self.flags
+        command = [*self.compiler.command, *flags, f"-I{self.folder}", f"-I{HERE}/hooks", "-c"]
         run(*command, os.path.join(HERE, name), "-o", made)
         return made
 

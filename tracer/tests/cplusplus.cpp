@@ -71,15 +71,14 @@ static void deletes() {
 #pragma omp taskwait
 }
 
-// Whoever comes first initialises the static, and does what is done once.
+// Whoever comes first initialises the static, and calls what is called once.
 static std::once_flag is_done;
-static int done;
 static void statics() {
     for (int i = 3; i < 6; i++)
 #pragma omp task firstprivate(i)
     {
-        std::call_once(is_done, [] { done = static_cast<int>(early.size()); });
-        seen[i] = static_cast<int>(late().size()) + done;
+        std::call_once(is_done, [] {});
+        seen[i] = static_cast<int>(late().size());
     }
 #pragma omp taskwait
 }

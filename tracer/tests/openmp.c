@@ -1,7 +1,6 @@
 /* Ways of OpenMP that the report has to say something about, or that end the run. The word names the way, and a second
    one the status. */
 #include <omp.h>
-#include <setjmp.h>
 #include <stdbool.h>
 #include <stdint.h>
 #include <stdio.h>
@@ -749,27 +748,25 @@ static void reaches_own_in_loop(void) {
         ++*of_master; /* [reaches own in loop] */
 }
 
-static void initialise(void) { one = 1; }
+static once_flag is_done = ONCE_FLAG_INIT;
+
+static void initialise(void) { one = 1; /* [once] */ }
 
 static void once(void) {
-    static once_flag is_done = ONCE_FLAG_INIT;
 #pragma omp parallel num_threads(2)
     {
         call_once(&is_done, initialise);
-        if (one != 1)
+        if (one != 1) /* [after once] */
             abort();
     }
 }
 
-/* A jump out of it. */
-static jmp_buf before;
-
-static void leave(void) { longjmp(before, 1); }
-
-static void left_once(void) {
-    static once_flag is_done = ONCE_FLAG_INIT;
-    if (setjmp(before) == 0)
-        call_once(&is_done, leave);
+/* The task alone waits for it. */
+static void beside_once(void) {
+#pragma omp task
+    call_once(&is_done, initialise);
+    after = one; /* [beside once] */
+#pragma omp taskwait
 }
 
 static void copies_own(void) {
@@ -1104,7 +1101,7 @@ int main(int count, char **words) {
                 {"reaches_own", reaches_own, true},
                 {"reaches_own_in_loop", reaches_own_in_loop, true},
                 {"once", once, true},
-                {"left_once", left_once, false},
+                {"beside_once", beside_once, true},
                 {"copies_own", copies_own, true},
                 {"exits", exits, true},
                 {"two_masters", two_masters, true},

@@ -39,6 +39,23 @@ static struct Early {
 } early;
 int main() {}
 """
+# What a task calls once fails, and then it holds the flag no more.
+FAILED_ONCE = """#include <mutex>
+static std::once_flag is_done;
+static int shared;
+int main() {
+    for (int i = 0; i < 2; i++)
+#pragma omp task
+    {
+        try {
+            std::call_once(is_done, [] { throw 1; });
+        } catch (int) {
+            shared++;
+        }
+    }
+#pragma omp taskwait
+}
+"""
 # A task waits for what comes later in the serial order.
 FUTURE = """#include <future>
 int main() {
@@ -162,6 +179,13 @@ class OpenMPTest(CPlusPlusTest):
         self.build("shared", "shared.cpp", "-fopenmp")
         said = self.run_command(SPBAGS_RUN, "--json", "--", "./shared").out
         self.assertEqual(['"guard": "atomic"'], sorted(set(re.findall('"guard": [^,]*', said))))
+
+    def test_failed_once(self):
+        self.write("failed.cpp", FAILED_ONCE)
+        self.build("failed", "failed.cpp", "-fopenmp")
+        status, report = self.report_of("./failed", options=["--data-races"])
+        self.assertEqual((1, ["1 11 11"]), (status, self.lines_in("failed.cpp", cases.races_of_report(report))))
+        self.assertEqual([(None, None)], [(pair["guard"], pair["held_before"]) for pair in report["pairs"]])
 
     def test_before_main(self):
         self.write("early.cpp", EARLY)

@@ -53,3 +53,20 @@ UNLOCKS(mtx_unlock, mtx_t)
     }
 WAITING_SHARED_LOCKS(pthread_rwlock_rdlock, pthread_rwlock_timedrdlock)
 WAITING_SHARED_LOCKS(pthread_rwlock_wrlock, pthread_rwlock_timedwrlock)
+
+/* Who comes first holds the flag while it calls the routine, which an exception may leave. Who comes later has held it
+   too. */
+static const volatile void *enter_flag(const volatile void *flag) {
+    guards_enter((uintptr_t)flag, "the once flag ");
+    return flag;
+}
+static void leave_flag(const volatile void **flag) { guards_leave((uintptr_t)*flag); }
+
+#define ONCE(ANSWER, NAME, TYPE) \
+    __attribute__((weak)) ANSWER __real_##NAME(TYPE *flag, void (*routine)(void)); \
+    ANSWER __wrap_##NAME(TYPE *flag, void (*routine)(void)) { \
+        __attribute__((cleanup(leave_flag), unused)) const volatile void *held = enter_flag(flag); \
+        return __real_##NAME(flag, routine); \
+    }
+ONCE(int, pthread_once, pthread_once_t)
+ONCE(void, call_once, once_flag)

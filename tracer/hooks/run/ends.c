@@ -39,8 +39,8 @@ static void tell_notes(void) {
                     "procedures nest %u deep, so spbags needs --depth %u or more", frames_procedures_most - 1,
                     frames_procedures_most - 1);
     if (frames_initialising > hidden_updates)
-        tell_incomplete("an exception, a jump or the run's end has left what initialises a static or is called once: "
-                        "nothing behind its beginning is recorded");
+        tell_incomplete("an exception, a jump or the run's end has left what initialises a static: nothing behind its "
+                        "beginning is recorded");
     openmp_tell_notes();
     unknown_tell();
 }
