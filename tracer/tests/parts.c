@@ -27,7 +27,7 @@ char __start_spbags_hooks[1], __stop_spbags_hooks[1];
 struct doing doing = {.detecting = true};
 static struct frame root;
 struct frame *frames_top = &root, *frames_silent;
-unsigned frames_initialising;
+unsigned frames_hidden, frames_statics;
 uint32_t frames_procedures;
 uintptr_t frames_short_way_bits, frames_short_way_end, frames_short_way_first;
 void frames_find_short_way(void) {}
@@ -63,6 +63,9 @@ void look_note_pending(bool writes, uint64_t location, uintptr_t address, uintpt
 void accesses_note_write(uintptr_t at, size_t size, __spbags_function self, uintptr_t stack_pointer, uintptr_t code) {
     (void)at, (void)size, (void)self, (void)stack_pointer, (void)code;
 }
+
+bool statics_find(uintptr_t at, size_t size) { return (void)at, (void)size, false; }
+uint32_t statics_find_newest(void) { return 0; }
 
 /* Numbers that look random, and are those of each run. */
 static unsigned drawn(unsigned below) {

@@ -56,6 +56,102 @@ int main() {
 #pragma omp taskwait
 }
 """
+# Whoever comes first initialises a local static. The word names a way.
+STATICS = """#include <cstdlib>
+#include <map>
+#include <string>
+#include <vector>
+static int next_number, seen[4];
+static int *shared;
+struct Filled {
+    std::string text = "a text that has memory of its own";
+    std::vector<int> many;
+    std::map<int, std::string> tree;
+    int own[3];
+    Filled() {
+        for (int i = 0; i < 3; i++) {
+            many.push_back(i);
+            tree[i] = text;
+            own[i] = i;
+        }
+    }
+};
+static Filled &filled() { static Filled one; return one; }
+static const std::string &named() {
+    static const std::string &text = std::string(40, 'x');
+    return text;
+}
+template <class Value> static Value &of_template() { static Value value(3, 7); return value; }
+static int uses(int i) {
+    static std::vector<int> here(20, i);
+    auto text = [] { static std::string inner(100, 'x'); return inner; }();
+    return filled().many[i] + filled().own[i] + (int)(filled().text.size() + filled().tree[i].size() + named().size()) +
+           of_template<std::vector<int>>()[i] + here[i] + (int)text.size();
+}
+static int number() {
+    static int id = ++next_number; // [number]
+    return id;
+}
+static int from_before() {
+    static int value = *shared = 1; // [from before]
+    return value;
+}
+static int &made() { static int &value = *new int(1); return value; }
+static int uses_made() {
+    static int value = made()++; // [uses made]
+    return value;
+}
+static int left() {
+    static int value = (std::exit(0), 1);
+    return value;
+}
+static int spawned() {
+    static int value = [] {
+        int sum = 0;
+#pragma omp task shared(sum)
+        sum++;
+#pragma omp taskwait
+        return sum;
+    }();
+    return value;
+}
+static int thrown() {
+    static int value = [] {
+        if (next_number++ == 0) // [thrown]
+            throw 1;
+        return 2;
+    }();
+    return value;
+}
+static int tried() try { return thrown(); } catch (int) { return 0; }
+int main(int, char **words) {
+    const std::string way = words[1];
+    shared = new int(0);
+    for (int i = 0; i < 3; i++)
+#pragma omp task firstprivate(i)
+        seen[i] = way == "own" ? uses(i) : way == "thrown" ? tried() : 0;
+#pragma omp taskwait
+#pragma omp task
+    seen[0] = way == "number" ? number() : way == "before" ? from_before() : way == "inner" ? uses_made() : 0;
+    if (way == "number")
+        seen[1] = next_number; // [beside number]
+    if (way == "before")
+        seen[1] = *shared; // [beside before]
+    if (way == "inner")
+        seen[1] = made(); // [beside made]
+#pragma omp taskwait
+#pragma omp task
+    if (way == "after")
+        filled().own[1] = 1; // [after]
+    if (way == "after")
+        filled().own[1]++; // [beside after]
+#pragma omp taskwait
+    if (way == "left")
+        left();
+    if (way == "spawned")
+        spawned();
+}
+"""
 # A task waits for what comes later in the serial order.
 FUTURE = """#include <future>
 int main() {
@@ -118,6 +214,22 @@ static void see(int at) {
 int main() {
     cilk_spawn see(0);
     see(1);
+    cilk_sync;
+}
+"""
+# Whoever comes first initialises a local static; what else that writes is shared.
+STATIC_IN_CHILD = """#include <cilk/cilk.h>
+#include <string>
+static int next_number, seen[2];
+static const std::string &text() {
+    static const std::string value = std::string(40, 'x') + std::to_string(++next_number); // [number]
+    return value;
+}
+static void see(int at) { seen[at] = text()[at]; }
+int main() {
+    cilk_spawn see(0);
+    see(1);
+    seen[1] = next_number; // [beside number]
     cilk_sync;
 }
 """
@@ -186,6 +298,24 @@ class OpenMPTest(CPlusPlusTest):
         status, report = self.report_of("./failed", options=["--data-races"])
         self.assertEqual((1, ["1 11 11"]), (status, self.lines_in("failed.cpp", cases.races_of_report(report))))
         self.assertEqual([(None, None)], [(pair["guard"], pair["held_before"]) for pair in report["pairs"]])
+
+    def test_statics(self):
+        """What an initialiser accesses is seen, but for the static itself and what is allocated meanwhile."""
+        self.write("statics.cpp", STATICS)
+        self.build("statics", "statics.cpp", "-fopenmp")
+        for way, *tags in (("own",), ("number", "number", "beside number"), ("before", "from before", "beside before"),
+                           ("inner", "uses made", "beside made"), ("after", "after", "beside after"),
+                           ("thrown", "thrown", "thrown")):
+            wanted = [f"1 {' '.join(str(line_of('statics.cpp', f'[{tag}]')) for tag in tags)}"] if tags else []
+            with self.subTest(way):
+                status, report = self.report_of("./statics", way)
+                self.assertEqual(wanted, self.lines_in("statics.cpp", cases.races_of_report(report)))
+                self.assertEqual((int(bool(tags)), []), (status, report["incomplete"]))
+            with self.subTest("a trace", way=way):
+                self.succeeds("./statics", way, SPBAGS_TRACE="run.trace")
+                self.assertEqual(wanted, self.lines_in("statics.cpp", self.traced_races("./statics")[0]))
+        self.reports(3, "the run's end has left what initialises a local static", "--", "./statics", "left")
+        self.reports(3, "the initialisation of a local static spawns", "--", "./statics", "spawned")
 
     def test_before_main(self):
         self.write("early.cpp", EARLY)
@@ -272,6 +402,12 @@ class CilkTest(CPlusPlusTest):
         self.build("own", "own.cpp")
         self.assertNotRegex(self.reports(1, "each thread has its own", "--", "./own"), "__tls_guard|guard variable")
         self.reports(0, "", "--data-races", "--", "./own")
+
+    def test_static_in_child(self):
+        self.write("statics.cpp", STATIC_IN_CHILD)
+        self.build("statics", "statics.cpp")
+        lines = (line_of("statics.cpp", f"[{tag}]") for tag in ("number", "beside number"))
+        self.assertEqual([f"1 {' '.join(map(str, lines))}"], self.races_in("statics.cpp", "./statics"))
 
     @once_of_levels
     def test_macros(self):

@@ -14,6 +14,8 @@ extern const struct callbacks {
     void (*forget_strands)(void);
     /* An access of a heap block that died in the strand of its birth. */
     void (*use_dead)(bool writes, uintptr_t address, uintptr_t code);
+    /* Which local static was being initialised when the heap block with this address was born, or 0. */
+    uint32_t (*static_of)(uintptr_t address);
     /* Whether a reducer's view has this byte. */
     bool (*is_of_view)(uintptr_t address);
     /* The groups of tasks end whose frames end with the newest one. */

@@ -1,6 +1,6 @@
 /* What programs in C++ call beside the rest. */
-#include "shadow/frames.h"
 #include "program/heap.h"
+#include "program/statics.h"
 #include "library/library.h"
 
 /* The library's operator new calls malloc. Whoever may still use what is deleted has a race, as with free. All that
@@ -24,25 +24,20 @@ DELETE(_ZdaPvmSt11align_val_t)
 DELETE(_ZdaPvRKSt9nothrow_t)
 DELETE(_ZdaPvSt11align_val_tRKSt9nothrow_t)
 
-/* A local static is initialised by whoever comes first, and all others wait for that. A trace has no way to say so, and
-   nothing is recorded meanwhile. */
-#define GUARD(NAME, CHANGE) \
+/* A local static is initialised by whoever comes first, and all others wait for that. A trace has no way to say so. */
+#define LEAVES_GUARD(NAME) \
     __attribute__((weak)) void __real_##NAME(void *guard); \
     void __wrap_##NAME(void *guard) { \
         __real_##NAME(guard); \
-        CHANGE; \
-        if (doing.tracing) \
-            frames_find_short_way(); \
+        statics_leave(guard); \
     }
-GUARD(__cxa_guard_release, frames_initialising--)
-GUARD(__cxa_guard_abort, frames_initialising--)
+LEAVES_GUARD(__cxa_guard_release)
+LEAVES_GUARD(__cxa_guard_abort)
 
 __attribute__((weak)) int __real___cxa_guard_acquire(void *guard);
 int __wrap___cxa_guard_acquire(void *guard) {
     int first = __real___cxa_guard_acquire(guard);
-    frames_initialising += first != 0;
-    if (doing.tracing)
-        frames_find_short_way();
+    statics_enter(guard, first != 0);
     return first;
 }
 

@@ -18,6 +18,6 @@ void silence_combining(int change) {
     if (frames_top > frames_silent)
         return;
     frames_left_out_update = true;
-    frames_initialising += (unsigned)change;
+    frames_hidden += (unsigned)change;
     frames_find_short_way();
 }

@@ -45,8 +45,9 @@ static void leave_stack(void) {
     stack->lowest = stacks_lowest;
     stack->bodies = bodies.first;
     stack->newest_body = bodies.newest;
-    stack->initialising = frames_initialising;
+    stack->hidden = frames_hidden;
     stack->hidden_updates = hidden_updates;
+    stack->statics = frames_statics;
     kept[stack - stacks].count = guards_held;
     memcpy(kept[stack - stacks].list, guards, guards_held * sizeof *guards);
 }
@@ -62,8 +63,9 @@ static void enter_stack(struct stack *stack) {
     frames_parts = stack->parts;
     stacks_lowest = stack->lowest;
     bodies = (struct bodies){stack->bodies, stack->newest_body};
-    frames_initialising = stack->initialising;
+    frames_hidden = stack->hidden;
     hidden_updates = stack->hidden_updates;
+    frames_statics = stack->statics;
     guards_held = kept[stack - stacks].count;
     memcpy(guards, kept[stack - stacks].list, guards_held * sizeof *guards);
     blocks_leave_quick_sites();
@@ -162,7 +164,7 @@ struct stack *turns_next_stack(const struct turn *turn, struct member *member, u
     stack->quick_end = stack->own_end = stack->end;
     stack->grouped = stack->silent_frame = NULL;
     stack->newest_body = stack->bodies;
-    kept[stack - stacks].count = stack->initialising = stack->hidden_updates = 0;
+    kept[stack - stacks].count = stack->hidden = stack->hidden_updates = stack->statics = 0;
     stack->does = turn;
     stack->member = member;
     return stack;

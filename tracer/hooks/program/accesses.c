@@ -2,6 +2,7 @@
 #include "program/procedures.h"
 #include "records/guards.h"
 #include "program/locations.h"
+#include "program/statics.h"
 #include "program/accesses.h"
 
 /* An atomic access is made. */
@@ -9,14 +10,14 @@ static bool is_atomic;
 
 __attribute__((noinline)) static void other_access(bool writes, uintptr_t at, size_t size, __spbags_function self,
                                                    uintptr_t stack_pointer, uintptr_t code) {
-    if (!doing.tracing || frames_initialising > 0)
+    if (!doing.tracing || frames_hidden > 0)
         return;
     procedures_leave_jumped(stack_pointer, code);
     if (is_atomic && frames_top <= frames_silent) {
         frames_left_out_update = true;
         return;
     }
-    if (!frames_is_on_the_way(self))
+    if (!frames_is_on_the_way(self) && !statics_have(at, size))
         locations_touch(writes, at, size, code);
 }
 

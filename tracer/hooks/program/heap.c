@@ -4,6 +4,7 @@
 
 #include "program/procedures.h"
 #include "program/locations.h"
+#include "program/statics.h"
 #include "records/look_heap.h"
 #include "base/memory.h"
 #include "program/accesses.h"
@@ -16,13 +17,15 @@ enum { HEAD = 16, CHUNK = 64 << 20, FREE_WIDE = 16, FREE_WIDE_SPANS = 512 };
 #endif
 
 /* Before each block stands its size; and where its step in the span begins, which may be before that, the strand of its
-   birth: or that this is none, or that the block is free, or that it dies in that strand and will be free. */
+   birth, with the number of the local static to which it belongs: or that this is none, or that the block is free, or
+   that it dies in that strand and will be free. */
 struct head {
     size_t size;
     uint64_t born;
 };
-enum { NOT_IN_STRAND = 0, FREED = 1, DYING = 2 };
-_Static_assert((int)DYING < (int)MARK_FIRST_READ, "a strand has the number of none");
+enum { NOT_IN_STRAND = 0, FREED = 1, DYING = 2, STRAND_BITS = 44 };
+_Static_assert((int)DYING < (int)MARK_FIRST_READ && (uint64_t)STATIC_NUMBERS << STRAND_BITS == 0,
+               "a strand has the number of none, or a static's has no room");
 
 static struct head *head_of(const void *block) { return (struct head *)block - 1; }
 
@@ -240,6 +243,8 @@ static uintptr_t locked_bytes(size_t size, size_t alignment) {
     return taken;
 }
 
+static uint64_t strand_now(void) { return marks_strand_now() << (64 - STRAND_BITS) >> (64 - STRAND_BITS); }
+
 static void *new_block(size_t alignment, size_t size) {
     if ((alignment & (alignment - 1)) != 0) {
         errno = EINVAL;
@@ -254,9 +259,10 @@ static void *new_block(size_t alignment, size_t size) {
     uintptr_t block = taken + HEAD;
     if (alignment > 0)
         block = (block + alignment - 1) & ~(alignment - 1);
-    bool is_in_strand = doing.tracing && is_of_run() && steps_may_leave_out;
+    bool is_in_strand = doing.tracing && is_of_run();
     head_of((void *)block)->size = size;
-    ((struct head *)taken)->born = is_in_strand ? marks_strand_now() : NOT_IN_STRAND;
+    ((struct head *)taken)->born =
+        is_in_strand ? (uint64_t)statics_newest() << STRAND_BITS | strand_now() : NOT_IN_STRAND;
     return (void *)block;
 }
 
@@ -301,7 +307,13 @@ static size_t whole_size(const void *block) { return (head_of(block)->size + 7) 
 /* Whether the block was born in the strand that runs. */
 static bool is_of_strand(uintptr_t block) {
     size_t span = span_of_block(block);
-    return doing.tracing && is_of_run() && span < GRANULE_SPANS && *born_at(span, block) == marks_strand_now();
+    return doing.tracing && steps_may_leave_out && is_of_run() && span < GRANULE_SPANS &&
+           (*born_at(span, block) ^ strand_now()) << (64 - STRAND_BITS) == 0;
+}
+
+uint32_t heap_static_of(uintptr_t address) {
+    bool is_in_span = granules_span_at(address) < spans_taken;
+    return is_in_span ? (uint32_t)(*born_at(span_of_block(address), address) >> STRAND_BITS) : 0;
 }
 
 /* The block dies in the strand of its birth. */
@@ -312,13 +324,15 @@ static void die(uintptr_t block, size_t size) {
 }
 
 void heap_end_block(void *block, __spbags_function self, uintptr_t stack_pointer, uintptr_t code) {
-    if (!block || !doing.tracing || frames_initialising > 0 ||
+    if (!block || !doing.tracing || frames_hidden > 0 ||
         (frames_is_on_the_way(self) && stack_pointer < frames_top->end))
         return;
     procedures_leave_jumped(stack_pointer, code);
     if (frames_is_on_the_way(self))
         return;
     uintptr_t address = (uintptr_t)block;
+    if (statics_have(address, 0))
+        return;
     if (!is_of_strand(address)) {
         locations_touch(true, address, whole_size(block), code);
     } else if (whole_size(block) > 0) {

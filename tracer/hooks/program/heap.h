@@ -14,6 +14,9 @@ void heap_end_aside(void);
 /* Whoever may still use a block that the program gives back has a race, as if all of it were written. */
 void heap_end_block(void *block, __spbags_function self, uintptr_t stack_pointer, uintptr_t code);
 
+/* Which local static was being initialised when the block with this address was born, or 0. */
+uint32_t heap_static_of(uintptr_t address);
+
 /* An access of a block that died in the strand of its birth. */
 void heap_use_dead(bool writes, uintptr_t address, uintptr_t code);
 

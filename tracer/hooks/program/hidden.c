@@ -22,7 +22,7 @@ void __spbags_not_seen(const char *note) {
 }
 
 void hidden_set(unsigned count) {
-    frames_initialising += count - hidden_updates;
+    frames_hidden += count - hidden_updates;
     hidden_updates = count;
     if (doing.tracing)
         frames_find_short_way();

@@ -4,7 +4,7 @@
 
 #include "base/common.h"
 
-/* How many such updates are going on. They count among the initialisations too. */
+/* How many such updates are going on. They count among what is hidden too. */
 extern unsigned hidden_updates;
 
 void hidden_set(unsigned count);

@@ -223,7 +223,7 @@ void __spbags_leave_group(const void *const *id) {
 
 /* From here on nothing is recorded, or again: MORE is 1 or -1. */
 void __spbags_pause(int change) {
-    frames_initialising += (unsigned)change;
+    frames_hidden += (unsigned)change;
     if (doing.tracing)
         frames_find_short_way();
 }

@@ -4,6 +4,7 @@
 #include "base/openmp.h"
 #include "program/hidden.h"
 #include "program/locations.h"
+#include "program/statics.h"
 #include "records/look.h"
 
 /* The address right above the stack memory of the function that called the hook: it keeps its frame pointer, which the
@@ -78,6 +79,8 @@ void procedures_open(enum spbags_kind kind, uintptr_t code) {
     frames_procedures_owners[frames_procedures] = NULL;
     if (frames_procedures > frames_procedures_most)
         nest_deeper();
+    if (__builtin_expect(frames_statics > 0, 0) && kind == SPBAGS_SPAWN)
+        statics_tell_child();
 }
 
 void procedures_sync(uintptr_t code) { structure(SPBAGS_SYNC, code); }
@@ -174,7 +177,7 @@ void procedures_begin_child(__spbags_function callee, uintptr_t stack_pointer, u
     procedures_open(SPBAGS_SPAWN, code);
     frames_need_one();
     push_child(callee, stack_pointer, recent_so_far());
-    if (__builtin_expect(frames_initialising > 0, 0))
+    if (__builtin_expect(frames_hidden > 0, 0))
         hidden_tell_child();
 }
 

@@ -2,6 +2,7 @@
 #include "program/hidden.h"
 #include "program/locations.h"
 #include "program/procedures.h"
+#include "program/statics.h"
 #include "records/views.h"
 
 /* No granule of the stack's memory that is all the view's has been written, whatever its mark says. */
@@ -41,21 +42,23 @@ static struct view *known_view(uintptr_t first, size_t size, const char *note) {
     return view && view->first == first && view->end == first + size ? view : add_view(first, size, note);
 }
 
-static bool records_views(void) { return doing.tracing && frames_initialising == hidden_updates; }
+static bool is_recorded(uintptr_t first, size_t size) {
+    return doing.tracing && frames_hidden == hidden_updates && !statics_have(first, size);
+}
 
 void __spbags_reducer(const volatile void *at, unsigned long size, const char *note) {
     if (!doing.tracing || size == 0)
         return;
     procedures_leave_jumped(STACK_POINTER, CODE);
     struct view *view = add_view((uintptr_t)at, size, note);
-    if (records_views())
+    if (is_recorded((uintptr_t)at, size))
         write_view(view, CODE);
 }
 
 /* One that never began, as a global one or an element, begins now. */
 static void *update(uintptr_t at, size_t size, const char *note, uintptr_t stack_pointer, uintptr_t code) {
     enum { FIRST_BYTES = 8 };
-    if (records_views() && size > 0) {
+    if (size > 0 && is_recorded(at, size)) {
         procedures_leave_jumped(stack_pointer, code);
         known_view(at, size, note);
         locations_touch(false, at, size < FIRST_BYTES ? size : FIRST_BYTES, code);
@@ -64,7 +67,7 @@ static void *update(uintptr_t at, size_t size, const char *note, uintptr_t stack
 }
 
 static void *value(uintptr_t at, size_t size, const char *note, uintptr_t stack_pointer, uintptr_t code) {
-    if (records_views() && size > 0) {
+    if (size > 0 && is_recorded(at, size)) {
         procedures_leave_jumped(stack_pointer, code);
         write_view(known_view(at, size, note), code);
     }
@@ -80,7 +83,7 @@ void *__spbags_value(const volatile void *at, unsigned long size, const char *no
 }
 
 static void end_view(struct view *view, uintptr_t code) {
-    if (records_views())
+    if (is_recorded(view->first, view->end - view->first))
         write_view(view, code);
     views_remove(view);
 }

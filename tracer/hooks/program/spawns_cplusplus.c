@@ -2,6 +2,7 @@
 #include "program/procedures.h"
 #include "program/locations.h"
 #include "program/accesses.h"
+#include "program/statics.h"
 
 /* The arguments that the parent has read, and the end of the statement's frame once that is a child. A copy of one for
    the call is no access of the child's. */
@@ -49,7 +50,7 @@ void __spbags_detach(const void *code) {
 }
 
 void __spbags_stored_by(const volatile void *at, unsigned long size, const void *code) {
-    if (doing.tracing && frames_initialising == 0)
+    if (doing.tracing && frames_hidden == 0 && !statics_have((uintptr_t)at, size))
         locations_touch(true, (uintptr_t)at, size, (uintptr_t)code);
 }
 

@@ -38,8 +38,11 @@ static void tell_notes(void) {
         tell_record(tell_numbered("depth", frames_procedures_most - 1).text,
                     "procedures nest %u deep, so spbags needs --depth %u or more", frames_procedures_most - 1,
                     frames_procedures_most - 1);
-    if (frames_initialising > hidden_updates)
-        tell_incomplete("an exception, a jump or the run's end has left what initialises a static: nothing behind its "
+    if (frames_statics > 0)
+        tell_incomplete("a jump or the run's end has left what initialises a local static: nothing of that static is "
+                        "recorded, nor of the heap blocks that were allocated since");
+    if (frames_hidden > hidden_updates)
+        tell_incomplete("a jump or the run's end has left an operation of a library's header: nothing behind its "
                         "beginning is recorded");
     openmp_tell_notes();
     unknown_tell();

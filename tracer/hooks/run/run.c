@@ -29,6 +29,7 @@ const struct callbacks callbacks = {.end_run = ends_end_run,
                                     .end_by_signal = signals_end_run,
                                     .forget_strands = forget_strands,
                                     .use_dead = heap_use_dead,
+                                    .static_of = heap_static_of,
                                     .is_of_view = views_have,
                                     .leave_groups = parallel_leave_groups};
 

@@ -14,7 +14,7 @@ _Static_assert(offsetof(struct frame, end) == 0 && offsetof(struct frame, kind) 
 
 struct frame *frames_all, *frames_end, *frames_top, *frames_silent, *frames_grouped, **frames_procedures_owners;
 uint32_t frames_procedures, frames_procedures_most;
-unsigned frames_initialising;
+unsigned frames_hidden, frames_statics;
 bool frames_left_out_update;
 uintptr_t frames_short_way_end, frames_short_way_bits, frames_short_way_first;
 bool frames_short_way_structure;
@@ -33,7 +33,7 @@ void frames_begin(size_t size) {
 }
 
 void frames_find_short_way(void) {
-    bool records = doing.tracing && frames_initialising == 0;
+    bool records = doing.tracing && (frames_hidden | frames_statics) == 0;
     frames_short_way_bits = records && !openmp_watches && granules_shift == GRANULE_USUAL_SHIFT ? UINTPTR_MAX : 0;
     frames_short_way_first = doing.plain && frames_short_way_bits != 0 ? stacks_first : UINTPTR_MAX;
     frames_short_way_structure = records && doing.plainest;

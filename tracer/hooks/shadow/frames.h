@@ -59,8 +59,9 @@ extern struct frame *frames_silent;
 extern bool frames_left_out_update;
 /* What holds the newest group of tasks, or NULL. */
 extern struct frame *frames_grouped;
-/* How many local statics of C++ are being initialised, while nothing is recorded. */
-extern unsigned frames_initialising;
+/* How much is under way of which nothing is recorded, such as updates of reducers; and how many local statics of C++
+   are being initialised, while not all is. */
+extern unsigned frames_hidden, frames_statics;
 
 static inline bool frames_is_of_function(const struct frame *frame) {
     return frame->kind == FRAME_FUNCTION || frame->kind == FRAME_SCOPE;

@@ -23,7 +23,7 @@ struct stack {
     struct frame *frames, *frames_end, *top, *grouped, *silent_frame;
     struct frame_part *parts;
     struct body *bodies, *newest_body;
-    unsigned initialising, hidden_updates;
+    unsigned hidden, hidden_updates, statics;
     /* Of a member's: its thread waits here for its turn, and then does this for the member. */
     sem_t turn;
     const struct turn *does;

@@ -1,5 +1,6 @@
 #include "calls.h"
 
+#include "../statics.h"
 #include "assembly.h"
 #include "vectors.h"
 
@@ -183,9 +184,30 @@ static bool find_in_builtin(accesses &all, gcall *call) {
     return true;
 }
 
-static bool tells_of_assembly(gcall *call) {
+static bool calls(gcall *call, const char *name) {
     tree callee = gimple_call_fndecl(call);
-    return callee && DECL_NAME(callee) && id_equal(DECL_NAME(callee), "__spbags_asm_outside");
+    return callee && DECL_NAME(callee) && id_equal(DECL_NAME(callee), name);
+}
+
+static const char *name_for_assembler(tree decl) {
+    return DECL_ASSEMBLER_NAME_SET_P(decl) ? IDENTIFIER_POINTER(DECL_ASSEMBLER_NAME(decl)) : "";
+}
+
+/* Before a guard is acquired: what the local static has. */
+static void note_static(accesses &all, gcall *call) {
+    tree guard = gimple_call_arg(call, 0);
+    if (TREE_CODE(guard) != ADDR_EXPR || !VAR_P(TREE_OPERAND(guard, 0)))
+        return;
+    const char *name = name_for_assembler(TREE_OPERAND(guard, 0));
+    gimple_seq sequence = nullptr;
+    varpool_node *variable;
+    FOR_EACH_VARIABLE(variable) {
+        tree size = DECL_SIZE_UNIT(variable->decl);
+        if (size && tree_fits_shwi_p(size) && statics_have(name, name_for_assembler(variable->decl)))
+            gimple_seq_add_stmt(&sequence, call_hook("__spbags_static", {guard, address_of(variable->decl),
+                                                                         number_of(tree_to_shwi(size))}));
+    }
+    all.put_before(call, sequence);
 }
 
 /* A function that is declared to do nothing but compute calls hooks too. */
@@ -205,8 +227,10 @@ void find_in_call(accesses &all, gcall *call) {
             /* OpenMP's atomic updates. The lowest byte is the size. */
             note_compare(all, call, gimple_call_arg(call, 0), gimple_call_arg(call, 1),
                          number_of(tree_to_shwi(gimple_call_arg(call, 3)) & 255));
-    } else if (tells_of_assembly(call)) {
+    } else if (calls(call, "__spbags_asm_outside")) {
         judge_assembly_outside(call);
+    } else if (calls(call, "__cxa_guard_acquire")) {
+        note_static(all, call);
     } else if (!find_in_builtin(all, call)) {
         for (unsigned at = 0; at < gimple_call_num_args(call); at++)
             if (!is_gimple_reg_type(TREE_TYPE(gimple_call_arg(call, at))))

@@ -1,5 +1,6 @@
 #include "calls.h"
 
+#include "../statics.h"
 #include "assembly.h"
 #include "vectors.h"
 
@@ -132,6 +133,16 @@ static void find_in_arguments(accesses &all, CallBase *call) {
         }
 }
 
+/* Before a guard is acquired: what the local static has. */
+static void note_static(const accesses &all, CallBase *call) {
+    Value *guard = call->getArgOperand(0)->stripPointerCasts();
+    for (GlobalVariable &one : all.module.globals())
+        if (statics_have(std::string_view(guard->getName()), std::string_view(one.getName()))) {
+            TypeSize size = all.layout.getTypeAllocSize(one.getValueType());
+            call_hook(call, "__spbags_static", {guard, &one, all.number(size.getFixedValue())});
+        }
+}
+
 void find_in_call(accesses &all, CallBase *call) {
     Function *callee = call->getCalledFunction();
     if (call->isInlineAsm())
@@ -144,6 +155,8 @@ void find_in_call(accesses &all, CallBase *call) {
         atomic_operation(all, call, callee->getName()).find();
     else if (callee && callee->getName() == "__spbags_asm_outside")
         judge_assembly_outside(call);
+    else if (callee && callee->getName() == "__cxa_guard_acquire")
+        note_static(all, call);
     else
         find_in_arguments(all, call);
 }
