@@ -558,6 +558,8 @@ SHARED(4, NUMBER(pthread_setspecific(99, b)), (void)(pthread_getspecific(99))) S
  SHARED(4, NUMBER(setlocale(LC_ALL, "C")), (void)(localeconv()))
 SHARED(4, (void)(iconv(converter, NULL, NULL, NULL, NULL)), (void)(iconv(converter, NULL, NULL, NULL, NULL)))
 SHARED(4, NUMBER(textdomain("x")), (void)(textdomain(NULL))) SHARED(4, NUMBER(getpwent()), setpwent()) SHARED(4, (void)(getgrent()), setgrent())
+SHARED(0, (void)(strsep(&(char *){a}, " ")), (void)(strsep(&(char *){c}, " ")))
+SHARED(0, (void)(strtok_r(a, " ", &(char *){NULL})), (void)(strtok_r(c, " ", &(char *){NULL})))
 SHARED(4, hcreate(4), hdestroy()) SHARED(8, (void)(strtok(b, " ")), NUMBER(strtok(NULL, " ")))
 SHARED(56, NUMBER(gmtime(AS(time_t, big)) == localtime(AS(time_t, big))), (void)(ctime(AS(time_t, big)))) SHARED(26, NUMBER(asctime(AS(struct tm, day))), (void)(ctime(AS(time_t, big))))
 SHARED(2, NUMBER(l64a(5)), (void)(l64a(5))) SHARED(8, (putc_unlocked)('x', text), (getc_unlocked)(text))

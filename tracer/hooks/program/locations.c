@@ -149,10 +149,10 @@ static void note_part(uintptr_t granule) {
         openmp_note_part(granule);
 }
 
-/* No memory of the program reaches further than its addresses do. */
+/* No memory of the program reaches further than its addresses do. What a function doesn't touch lies nowhere. */
 void locations_touch(bool writes, uintptr_t address, size_t size, uintptr_t code) {
     const uintptr_t most = (uintptr_t)1 << 47;
-    if (size == 0 || address >= most || size > most - address)
+    if (size == 0 || address == 0 || address >= most || size > most - address)
         return;
     if (((address | size) & granules_mask) != 0) {
         partial_accesses++;
