@@ -21,7 +21,7 @@ SYSTEM = re.compile(
 # What these give out is code that nothing is known of either.
 GIVES_CODE = {"dlsym", "dlvsym"}
 PARALLEL = re.compile("GOMP_|GOACC_|__kmpc_")
-OPENMP = re.compile("GOMP_|__kmpc_|omp_|__spbags_thread_num$")
+OPENMP = re.compile("GOMP_|__kmpc_|omp_|__spbags_(thread_num|num_threads)$")
 FUNCTIONS = CODE + WEAK_CODE
 OBJECT, SHARED = 1, 3
 # What the names of the compiler's sections begin with.

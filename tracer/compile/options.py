@@ -112,7 +112,8 @@ class Words:
         elif word.startswith("-x"):
             self.language(word[2:])
         elif word.startswith("-fopenmp") and not word.startswith(("-fopenmp-simd", "-fopenmp-version")):
-            self.openmp = ["-fopenmp", "-Domp_get_thread_num=__spbags_thread_num", "-Wno-misleading-indentation"]
+            asked = [f"-Domp_get_{name}=__spbags_{name}" for name in ("thread_num", "num_threads")]
+            self.openmp = ["-fopenmp", *asked, "-Wno-misleading-indentation"]
         elif word.startswith(DROPPED) or word in DROPPED_WORDS:
             if word.startswith("-O"):
                 self.level = "-O0" if word == "-O0" else "-O1"

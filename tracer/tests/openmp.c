@@ -881,6 +881,37 @@ static void groups_wait(void) {
     }
 }
 
+/* A task that only reads a number of its parent shares it. */
+static void task_reads(void) {
+    int seen = 1;
+#pragma omp task shared(seen)
+    row[0] = seen; /* [task reads] */
+    seen = 2;      /* [beside task reads] */
+#pragma omp taskwait
+    row[1] = seen;
+}
+
+static void task_has_read(void) {
+    for (int i = 0; i < 2; i++) {
+        int seen = i;
+#pragma omp task shared(seen)
+        row[0] = seen;
+#pragma omp taskwait
+        seen = 2;
+        row[1] = seen;
+    }
+}
+
+/* The compiler's own code asks how many threads there are. */
+static void tasks_sum(void) {
+    int sum = 0;
+#pragma omp taskgroup task_reduction(+ : sum)
+    for (int i = 0; i < 4; i++)
+#pragma omp task in_reduction(+ : sum)
+        sum += i;
+    row[0] = sum;
+}
+
 static void masked_out(void) {
 #pragma omp parallel
     {
@@ -1111,6 +1142,9 @@ int main(int count, char **words) {
                 {"beside_number", beside_number, true},
                 {"left_by_groups", left_by_groups, true},
                 {"groups_wait", groups_wait, true},
+                {"task_reads", task_reads, false},
+                {"task_has_read", task_has_read, false},
+                {"tasks_sum", tasks_sum, false},
                 {"masked_out", masked_out, true},
                 {"cancels", cancels, true},
                 {"task_of_critical", task_of_critical, true},

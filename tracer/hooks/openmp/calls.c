@@ -45,11 +45,7 @@ double omp_get_wtick(void) { return seconds(CLOCK_MONOTONIC, clock_getres); }
 /* ---- Threads ---- */
 
 void omp_set_num_threads(int threads) { scopes_task()->threads_wanted = threads; }
-int omp_get_num_threads(void) {
-    const struct scope *team = scopes_team();
-    note_question(team);
-    return (int)team->size;
-}
+int omp_get_num_threads(void) { return (int)scopes_team()->size; }
 int omp_get_num_procs(void) { return PROCESSORS; }
 int omp_get_thread_limit(void) { return INT_MAX; }
 int omp_in_parallel(void) { return teams.active_levels > 0; }
@@ -61,7 +57,12 @@ int omp_get_max_threads(void) {
 
 int omp_get_thread_num(void) { return scopes_thread()->thread; }
 
-/* gcc would ask once for a whole loop, and asks for itself in a master region, so programs have another name for it. */
+/* gcc would ask once for a whole loop, and asks for itself in a master region or where it adds up what tasks have, so
+   programs have other names for both. */
+int __spbags_num_threads(void) {
+    note_question(scopes_team());
+    return omp_get_num_threads();
+}
 int __spbags_thread_num(void) {
     struct scope *thread = scopes_thread();
     enum scope_kind task = scopes_holder()->kind;

@@ -71,8 +71,17 @@ static bool has_parts(const gimple *statement) {
            (gimple_code(statement) == GIMPLE_OMP_FOR && gimple_omp_for_kind(statement) == GF_OMP_FOR_KIND_FOR);
 }
 
+/* A task would get a copy of a number that it shares and only reads: then no hook sees who else writes the number. */
+static void share_numbers(const gimple *task) {
+    for (tree clause = gimple_omp_task_clauses(task); clause; clause = OMP_CLAUSE_CHAIN(clause))
+        if (OMP_CLAUSE_CODE(clause) == OMP_CLAUSE_SHARED)
+            OMP_CLAUSE_SHARED_READONLY(clause) = 0;
+}
+
 static tree end_lives(gimple_stmt_iterator *at, bool *, walk_stmt_info *info) {
     gimple *statement = gsi_stmt(*at);
+    if (gimple_code(statement) == GIMPLE_OMP_TASK)
+        share_numbers(statement);
     if (!has_parts(statement))
         return NULL_TREE;
     gimple_seq hooks = nullptr;

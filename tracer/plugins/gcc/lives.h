@@ -7,7 +7,8 @@
 /* Whether the hooks are told where lives end: of OpenMP, and not of the tasks that stand for Cilk's children. */
 extern bool lives_are_wanted;
 
-/* Before regions become functions: at an iteration's end a hook says which of its variables have none any more. */
+/* Before regions become functions: at an iteration's end a hook says which of its variables have none any more. What
+   tasks share is one variable, and not a copy. */
 void lives_put(function *fun);
 
 #endif
