@@ -19,10 +19,10 @@ pub use Rattle.shadow.specs.Before.{IsCellBefore, IsNameBefore, AreBefore}
 pub use Rattle.shadow.specs.Pages.{cell_in, HasSameCells, HasSetPage}
 pub use Rattle.shadow.specs.Cells.{Cell, rival, race_with, Name, parallel_access, stands_in_p, name_of, touched, untouched}
 pub use Rattle.blocks.specs.Blocks.{block_of, unit_of, first_of, cell_in_blocks, is_unit}
-pub use Rattle.blocks.specs.Groups.{names_at, no_group, names_of, names_of_touched, is_racy, AreKnown, IsAlike, names_at_touched, IsPartly}
+pub use Rattle.blocks.specs.Groups.{no_group, names_of_touched, is_racy, AreKnown, IsAlike, names_at_touched, IsPartly, AreNew, touched_names, names_after, is_in_p_from, is_step_in_p, has_rival, keeps_names}
 pub use Rattle.blocks.specs.Masks.{has, units_before}
-pub use Rattle.blocks.specs.Pages.{Block, races_up_to, unit_cell, block_cell, touched_at, location_of, race_at_unit, AreNew}
-pub use Rattle.blocks.specs.Steps.{no_steps, named_cell, touched_names, names_after, name_from, name_in, is_in_p_from, is_step_in_p, has_rival, keeps_names}
+pub use Rattle.blocks.specs.Pages.{Block, races_up_to, unit_cell, block_cell, touched_at, location_of, race_at_unit, names_at, names_of}
+pub use Rattle.blocks.specs.Steps.{no_steps, named_cell, name_from, name_in}
 pub use Rattle.blocks.specs.declared.groups.Group.{Group}
 pub use Rattle.blocks.specs.declared.step.Names.{Names}
 pub use Rattle.blocks.specs.declared.step.Step.{Step}

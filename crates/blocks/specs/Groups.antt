@@ -1,19 +1,41 @@
--- Promised: what groups of units keep of each unit.
-use Rattle.std.specs.Prelude.{◌≡◌, ◌≢◌, ℕ, ◌<◌, ◌≤◌, ◌⊎◌, Bool, true, false, List, [], ◌∷◌, length, get_or}
-use Rattle.std.specs.Prelude.{Option, None, Some, option_map, is_some, unwrap_or, if◌then◌else◌}
-use Rattle.std.specs.Option.{option_or}
+-- Private: what an access does to the names that groups keep of their units.
+use Rattle.std.specs.Prelude.{ℕ, zero, suc, Bool, false, ◌||◌, Option, None, Some, List, if◌then◌else◌, ◌≡◌, ◌≢◌, ◌<◌}
+use Rattle.std.specs.Prelude.{◌≤◌, ◌⊎◌, true, length, get_or, option_map, is_some, not, ◌&&◌}
 use Rattle.dag.specs.declared.records.Kind.{Kind}
-use Rattle.bags.specs.Procedures.{Active}
+use Rattle.bags.specs.Procedures.{Active, in_p}
+use Rattle.dag.specs.declared.records.Kind.TheVariants.{Read, Write}
 use Rattle.blocks.specs.Masks.{has}
-use Rattle.blocks.specs.Steps.{has_rival, names_after, no_steps}
+use Rattle.blocks.specs.Steps.{no_steps}
+use Rattle.blocks.specs.Pages.{names_at, names_of, Block}
 use Rattle.blocks.specs.declared.step.Step.{Step}
 use Rattle.blocks.specs.declared.step.Names.{Names}
 use Rattle.blocks.specs.declared.groups.Group.{Group}
 
--- the names that are kept of a unit: those of the last group that has it
-abbrev pub names_at : List Group → ℕ → Option Names
-names_at [] unit = None
-names_at (g ∷ gs) unit = option_or (names_at gs unit) (if has g.units unit then Some g.names else None)
+-- whether a step at this place, if it is one, has its procedure in a P-bag
+abbrev pub is_in_p_from : List Active → ℕ → ℕ → Bool
+is_in_p_from fs procedure zero = false
+is_in_p_from fs procedure (suc k) = in_p fs procedure
+
+abbrev pub is_step_in_p : List Active → Step → Bool
+is_step_in_p fs s = is_in_p_from fs s.procedure s.place
+
+-- whether an access races with one of these
+abbrev pub has_rival : List Active → Kind → Names → Bool
+has_rival fs Read n = is_step_in_p fs n.writer
+has_rival fs Write n = is_step_in_p fs n.writer || is_step_in_p fs n.reader
+
+-- whether an access leaves these as they are
+abbrev pub keeps_names : List Active → Kind → Names → Bool
+keeps_names fs Read n = is_step_in_p fs n.reader
+keeps_names fs Write n = false
+
+-- what is kept after such a step, if they don't stay
+abbrev pub touched_names : Kind → Step → Names → Names
+touched_names Read step n = record { writer = n.writer; reader = step }
+touched_names Write step n = record { writer = step; reader = n.reader }
+
+abbrev pub names_after : List Active → Kind → Step → Names → Names
+names_after fs kind step n = if keeps_names fs kind n then n else touched_names kind step n
 
 -- whether an access races with one of the names, if there are any
 abbrev pub is_racy : List Active → Kind → Option Names → Bool
@@ -31,9 +53,6 @@ pub record AreKnown (count : ℕ) (n : Names) : Type 0 where
 -- the group that stands for one past the end
 abbrev pub no_group : Group
 no_group = record { units = 0; names = no_steps }
-
-abbrev pub names_of : List Group → ℕ → Names
-names_of gs unit = unwrap_or (names_at gs unit) no_steps
 
 -- what groups keep of a unit after an access, if they have the unit, and it is one of those accessed
 abbrev pub names_at_touched : List Active → Kind → Step → Bool → Option Names → Option Names
@@ -58,3 +77,8 @@ IsPartly fs kind step units old new = (i : ℕ) → i < 64 → (names_of new i �
 -- these are the units that groups have
 abbrev pub IsTouched : ℕ → List Group → Type 0
 IsTouched touched gs = (i : ℕ) → i < 64 → has touched i ≡ is_some (names_at gs i)
+
+-- the units at which an access reports a race: it races there, and no race was reported
+abbrev pub AreNew : List Active → Kind → ℕ → Block → ℕ → Type 0
+AreNew fs kind units b racy = (i : ℕ) → i < 64
+    → has racy i ≡ (has units i && (is_racy fs kind (names_at b.groups i) && not (has b.reported i)))

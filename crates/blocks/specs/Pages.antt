@@ -1,15 +1,23 @@
 -- Promised: what a page keeps of its 64 units, and what an access to some of them does.
-use Rattle.std.specs.Prelude.{◌≡◌, ℕ, zero, suc, ◌+◌, ◌*◌, ◌%◌, ◌<◌, not, ◌&&◌, List, [], ◌++◌, Option, Some, None}
-use Rattle.std.specs.Prelude.{if◌then◌else◌}
-use Rattle.std.specs.Option.{option_to_list}
+use Rattle.std.specs.Prelude.{ℕ, zero, suc, ◌+◌, Option, None, Some, List, if◌then◌else◌, [], ◌∷◌, unwrap_or, ◌*◌, ◌%◌}
+use Rattle.std.specs.Prelude.{◌++◌}
+use Rattle.std.specs.Option.{option_or, option_to_list}
 use Rattle.dag.specs.declared.records.Kind.{Kind}
 use Rattle.dag.specs.Accesses.{RaceAt}
 use Rattle.bags.specs.Procedures.{Active}
 use Rattle.shadow.specs.Cells.{Cell, untouched, touched, race_at}
-use Rattle.blocks.specs.Masks.{has, units_before}
-use Rattle.blocks.specs.Steps.{named_cell}
-use Rattle.blocks.specs.Groups.{names_at, names_of, is_racy}
+use Rattle.blocks.specs.Masks.{units_before, has}
+use Rattle.blocks.specs.Steps.{no_steps, named_cell}
 use Rattle.blocks.specs.declared.groups.Group.{Group}
+use Rattle.blocks.specs.declared.step.Names.{Names}
+
+-- the names that are kept of a unit: those of the last group that has it
+abbrev pub names_at : List Group → ℕ → Option Names
+names_at [] unit = None
+names_at (g ∷ gs) unit = option_or (names_at gs unit) (if has g.units unit then Some g.names else None)
+
+abbrev pub names_of : List Group → ℕ → Names
+names_of gs unit = unwrap_or (names_at gs unit) no_steps
 
 -- the groups, and the units whose race was reported
 pub record Block : Type 0 where
@@ -45,8 +53,3 @@ races_up_to fs first kind place units cells zero = []
 races_up_to fs first kind place units cells (suc unit) =
     races_up_to fs first kind place units cells unit
     ++ option_to_list (race_at_unit fs first kind place units unit (cells unit))
-
--- the units at which an access reports a race: it races there, and no race was reported
-abbrev pub AreNew : List Active → Kind → ℕ → Block → ℕ → Type 0
-AreNew fs kind units b racy = (i : ℕ) → i < 64
-    → has racy i ≡ (has units i && (is_racy fs kind (names_at b.groups i) && not (has b.reported i)))

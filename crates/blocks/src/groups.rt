@@ -4,7 +4,8 @@ ghost use Rattle.std.specs.Prelude.{OnOk, OnErr, IfOk, IfSome, length, take, dro
 ghost use Rattle.std.specs.Option.{ForSome};
 ghost use Rattle.shadow.specs.Before.{Executes};
 ghost use Rattle.blocks.specs.Masks.{has};
-ghost use Rattle.blocks.specs.Groups.{names_at, is_racy, names_of, names_of_touched, names_at_touched, no_group};
+ghost use Rattle.blocks.specs.Groups.{is_racy, names_of_touched, names_at_touched, no_group};
+ghost use Rattle.blocks.specs.Pages.{names_at, names_of};
 ghost use Rattle.blocks.specs.Groups.{AreKnown, IsAlike, IsPartly, IsTouched};
 
 use crate::masks::without;

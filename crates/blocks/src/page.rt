@@ -4,7 +4,8 @@ ghost use Rattle.std.specs.Int.RustNames.{count_ones};
 ghost use Rattle.dag.specs.Bounds.{most_records};
 ghost use Rattle.shadow.specs.Before.{IsCellBefore};
 ghost use Rattle.blocks.specs.Masks.{has};
-ghost use Rattle.blocks.specs.Pages.{block_cell, unit_cell, touched_at, races_up_to, AreNew};
+ghost use Rattle.blocks.specs.Pages.{block_cell, unit_cell, touched_at, races_up_to};
+ghost use Rattle.blocks.specs.Groups.{AreNew};
 
 use crate::groups::{Group, forget, names_of, racy_units, touch};
 use crate::masks::{count_before, without};

@@ -5,7 +5,8 @@ ghost use Rattle.dag.specs.Bounds.{most_records};
 ghost use Rattle.shadow.specs.Before.{Executes, IsCellBefore, CanRace};
 ghost use Rattle.shadow.specs.Cells.{rival};
 ghost use Rattle.blocks.specs.Masks.{units_before};
-ghost use Rattle.blocks.specs.Steps.{is_step_in_p, has_rival, keeps_names, touched_names, named_cell};
+ghost use Rattle.blocks.specs.Steps.{named_cell};
+ghost use Rattle.blocks.specs.Groups.{is_step_in_p, has_rival, keeps_names, touched_names};
 
 use crate::masks::count_before;
 use bags::Bags;

@@ -22,10 +22,11 @@ pub use Rattle.trace.proofs.SpelledLines.{length-decimal-20}
 pub use Rattle.trace.specs.Devices.{◌⇝◌, Change, Gave, Device, IsSteady}
 pub use Rattle.trace.specs.Text.{newline}
 pub use Rattle.trace.specs.Writers.{Took, TookFront, AppendsFront, IsUntouched, WasGiven, Puts}
-pub use Rattle.collect.specs.Collected.{race_on, races_of, best, IsCollected, better, kept_after, KeepsBest, IsFirstLeast, Collection, AreFirstLeast, fails, has_better, IsFirstOnLocation, IsTakenInPart}
+pub use Rattle.collect.specs.Collected.{race_on, races_of, best, IsCollected, better, kept_after, KeepsBest, IsFirstLeast, Collection, AreFirstLeast, fails, IsFirstOnLocation, IsTakenInPart}
+pub use Rattle.collect.specs.Keyed.{has_better, may_follow}
 pub use Rattle.collect.specs.Located.{located_at, HaveLocations}
 pub use Rattle.collect.specs.ReportBytes.{HoldsReport, IsCause, IsRefusal, most_report_bytes}
 pub use Rattle.collect.specs.ReportFaults.{no_head, no_race, no_end, OneFault, NoFault, IsFirstBadLine, OneList}
 pub use Rattle.collect.specs.ReportText.{head, race_lines, race_line, rtext, space, access_text, word}
-pub use Rattle.collect.specs.Reports.{IsReportList, IsEntry, may_follow, locations}
+pub use Rattle.collect.specs.Reports.{IsReportList, IsEntry, locations}
 pub use Rattle.collect.specs.declared.bounded.ReportRefusal.TheVariants.{TooLarge, Read, Bad}

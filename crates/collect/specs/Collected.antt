@@ -1,6 +1,6 @@
 -- Promised: what a collector keeps of the races that it was given.
-use Rattle.std.specs.Prelude.{◌≡◌, ℕ, ◌<◌, ◌≤◌, ◌↔◌, ◌==◌, nat_lt, nat_le, Bool, false, if◌then◌else◌}
-use Rattle.std.specs.Prelude.{List, ◌∷◌, ◌++◌, Contains, Option, Some, None, find, fold, map}
+use Rattle.std.specs.Prelude.{◌≡◌, ℕ, ◌<◌, ◌≤◌, ◌↔◌, ◌==◌, nat_lt, Bool, false, if◌then◌else◌, List, ◌∷◌, ◌++◌}
+use Rattle.std.specs.Prelude.{Contains, Option, Some, None, find, fold, map}
 use Rattle.std.specs.List.{AllByRecursion}
 use Rattle.std.specs.Option.{option_map_or}
 use Rattle.dag.specs.declared.back.Back.{Back}
@@ -16,10 +16,6 @@ race_on l rs = find (λ r. r.location == l) rs
 -- of two races the one with the lesser second place; on equal places the one that came first
 abbrev pub better : RaceAt → RaceAt → RaceAt
 better kept r = if nat_lt r.second.place kept.second.place then r else kept
-
--- whether a race of the list has the location of r, and a second place that is no later
-abbrev pub has_better : List RaceAt → RaceAt → Bool
-has_better rs r = option_map_or (λ k. nat_le k.second.place r.second.place) (race_on r.location rs) false
 
 -- what is kept of location l after one more race
 abbrev pub kept_after : ℕ → Option RaceAt → RaceAt → Option RaceAt

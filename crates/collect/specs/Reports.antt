@@ -1,6 +1,5 @@
 -- Promised: the lists of races that a report holds.
-use Rattle.std.specs.Prelude.{ℕ, ◌-◌, ◌<◌, ◌^◌, Bool, true, List, length, map, slice_get, nat_lt}
-use Rattle.std.specs.Option.{option_map_or}
+use Rattle.std.specs.Prelude.{ℕ, ◌<◌, List, map, ◌^◌}
 use Rattle.std.specs.List.{AllByRecursion}
 use Rattle.std.specs.List.Sorted.{IsStrictlyIncreasing}
 use Rattle.dag.specs.Accesses.{RaceAt, IsRaceShape}
@@ -17,7 +16,3 @@ pub record IsEntry (r : RaceAt) : Type 0 where
 pub record IsReportList (rs : List RaceAt) : Type 0 where
   pub ascending : IsStrictlyIncreasing (locations rs)
   pub entries : AllByRecursion IsEntry rs
-
--- whether the location of a race is above that of the last of a list
-abbrev pub may_follow : List RaceAt → RaceAt → Bool
-may_follow rs r = option_map_or (λ last. nat_lt last.location r.location) (slice_get rs (length rs - 1)) true

@@ -2,7 +2,8 @@
 ghost use Rattle.std.specs.Prelude.{◌≡◌, List, [], ◌∷◌, ◌++◌, length, map, true, IsTrue, OnOk, OnErr, IfOk, IsErr};
 ghost use Rattle.dag.specs.declared.back.Back.{Back};
 ghost use Rattle.collect.specs.Collected.{AreFirstLeast, KeepsBest, IsCollected, IsFirstOnLocation, IsTakenInPart};
-ghost use Rattle.collect.specs.Collected.{fails, has_better};
+ghost use Rattle.collect.specs.Collected.{fails};
+ghost use Rattle.collect.specs.Keyed.{has_better};
 ghost use Rattle.collect.specs.Reports.{IsReportList};
 
 use crate::reports::Report;

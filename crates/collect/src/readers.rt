@@ -4,7 +4,8 @@ ghost use Rattle.std.specs.Prelude.{slice_index, IsTrue, IfSome, IfNone, IfOk, I
 ghost use Rattle.dag.specs.declared.records.Kind.{Kind};
 ghost use Rattle.dag.specs.declared.records.Access.{Access};
 ghost use Rattle.dag.specs.Accesses.{RaceAt, IsRaceShape};
-ghost use Rattle.collect.specs.Reports.{IsEntry, IsReportList, may_follow};
+ghost use Rattle.collect.specs.Reports.{IsEntry, IsReportList};
+ghost use Rattle.collect.specs.Keyed.{may_follow};
 ghost use Rattle.collect.specs.ReportText.{space, word, access_text, head, race_line, rtext};
 ghost use Rattle.collect.specs.ReportFaults.{IsReportFault};
 ghost use Rattle.collect.specs.declared.readers.ReportFault.{ReportFault};

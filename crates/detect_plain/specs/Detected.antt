@@ -1,5 +1,5 @@
 -- Promised: what a detector has found in the records that came.
-use Rattle.std.specs.Prelude.{◌≡◌, ◌≤◌, false, List, [], ◌∷◌, ◌++◌, length}
+use Rattle.std.specs.Prelude.{◌≡◌, ◌≤◌, false, List, length}
 use Rattle.dag.specs.declared.back.Back.{Back}
 use Rattle.dag.specs.declared.records.Record.{Record}
 use Rattle.dag.specs.declared.records.Placed.{Placed}
@@ -22,11 +22,6 @@ pub record HasDetected (u : List Placed) (s : SpBags) (kept : Collection) : Type
 -- the detector has taken these records
 abbrev pub HasFollowed : {S H : Type 0} → List Placed → PlainDetector S H → Type 0
 HasFollowed u d = HasDetected u d.sp_bags d.collector
-
--- it takes one record more
-pub record TakesRecord {S H : Type 0} (p : Placed) (old new : PlainDetector S H) : Type 0 where
-  pub detected : (u : List Placed) → HasFollowed u old → HasFollowed (u ++ p ∷ []) new
-  pub last : new.sp_bags.last_place ≡ p.place
 
 -- it has taken the records u as they came, numbered from 1
 pub record HasSeenTrace {S H : Type 0} (u : List Record) (d : PlainDetector S H) : Type 0 where

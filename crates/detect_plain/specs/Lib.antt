@@ -1,1 +1,2 @@
 pub mod Detected
+pub mod Taking

@@ -1,11 +1,12 @@
 //! The detector of a trace that is read.
-ghost use Rattle.std.specs.Prelude.{◌≡◌, ℕ, ◌+◌, ◌<◌, ◌≤◌, List, [], ◌∷◌, ◌++◌, IfOk, OnOk};
+ghost use Rattle.std.specs.Prelude.{◌≡◌, ℕ, ◌+◌, ◌<◌, ◌≤◌, List, [], IfOk, OnOk};
 ghost use Rattle.dag.specs.Bounds.{most_records};
 ghost use Rattle.dag.specs.declared.records.Record.{Record};
 ghost use Rattle.dag.specs.declared.records.Placed.{Placed};
 ghost use Rattle.dag.specs.Traces.{IsWellNested};
 ghost use Rattle.shadow.specs.Found.{by_location, found};
-ghost use Rattle.detect_plain.specs.Detected.{TakesRecord, HasFollowed, HasSeenTrace};
+ghost use Rattle.detect_plain.specs.Detected.{HasFollowed, HasSeenTrace};
+ghost use Rattle.detect_plain.specs.Taking.{TakesRecord};
 ghost use Rattle.verdict.specs.Reported.{IsReportOf};
 
 use collect::{Collector, Report};

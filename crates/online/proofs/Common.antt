@@ -33,7 +33,8 @@ pub use Rattle.blocks.proofs.Kept.{races_of_same, location_page, location_unit}
 pub use Rattle.blocks.specs.Blocks.{block_of, unit_of, first_of, kept_in_blocks, races_in_block, Blocks, kept_after_units, is_unit}
 pub use Rattle.blocks.specs.Masks.{has, units_before}
 pub use Rattle.blocks.specs.Pages.{location_of, touched_at}
-pub use Rattle.online.specs.Accesses.{accesses, access_of, block_accesses, block_records, even}
-pub use Rattle.online.specs.Lives.{placed_in_life, in_life, named, first_lives, at_home, lives_after, home, IsOfFirstLife, AreOfFirstLives, IsReportOfLives, HasRacyLife, IsRaceCount}
+pub use Rattle.online.specs.Accesses.{accesses, access_of, block_records, even}
+pub use Rattle.online.specs.Lives.{in_life, named, first_lives, at_home, lives_after, home, IsOfFirstLife, AreOfFirstLives, IsReportOfLives, HasRacyLife, IsRaceCount}
 pub use Rattle.online.specs.Online.{Online, HasTakenPlaced, IsAfter, kept_in_both, IsOpening, IsRunning, WantsMemory, IsActiveCount}
-pub use Rattle.online.specs.Steps.{HasTakenMore, HasFollowedNext, TakesPlaced, HasOnlyAccessed, HasForgottenUnits, IsApart, Wants}
+pub use Rattle.online.specs.Steps.{HasTakenMore}
+pub use Rattle.online.specs.Following.{block_accesses, placed_in_life, HasFollowedNext, TakesPlaced, HasOnlyAccessed, HasForgottenUnits, IsApart, Wants}

@@ -246,15 +246,6 @@ followed_access kind l units d e met alone last one only = record {
     or_false true = refl
     or_false false = refl
 
--- no procedure is lost
-pub count_after : (s : State) (place : ℕ) (r : Record) → s.bags.count ≤ (after_record s place r).bags.count
-count_after s place records.Spawn = omega arith
-count_after s place records.Call = omega arith
-count_after s place records.Return = omega arith
-count_after s place records.Sync = omega arith
-count_after s place (records.Read l) = omega arith
-count_after s place (records.Write l) = omega arith
-
 -- what holds where it is known that all went well
 pub where_ok : {T E : Type 0} {x : T} (r : Result T E) (P : Type 0) → r ≡ Ok x → OnOk r P → P
 where_ok (Ok y) P e h = h

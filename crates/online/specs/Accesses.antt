@@ -1,6 +1,5 @@
 -- Promised: the accesses of a strand to units of a block, as records one after another.
 use Rattle.std.specs.Prelude.{ℕ, zero, suc, ◌+◌, ◌*◌, ◌/◌, List, [], ◌∷◌, ◌++◌, map, if◌then◌else◌}
-use Rattle.std.specs.Int.RustNames.{count_ones}
 use Rattle.dag.specs.declared.records.Kind.{Kind}
 use Rattle.dag.specs.declared.records.Kind.TheVariants.{Read, Write}
 use Rattle.dag.specs.declared.records.Record.{Record}
@@ -34,8 +33,3 @@ even location = location / 2 * 2
 abbrev pub block_records : ℕ → ℕ → ℕ → List Record
 block_records location reads writes =
     map (λ p. p.what) (accesses (even location) Read 1 reads ++ accesses (even location) Write 1 writes)
-
--- such accesses at the places from one on
-abbrev pub block_accesses : ℕ → ℕ → ℕ → ℕ → List Placed
-block_accesses location place reads writes =
-    accesses location Read place reads ++ accesses location Write (place + count_ones reads) writes

@@ -26,9 +26,6 @@ in_life lives Sync = Sync
 in_life lives (Read l) = Read (named l (lives l))
 in_life lives (Write l) = Write (named l (lives l))
 
-abbrev pub placed_in_life : (ℕ → ℕ) → Placed → Placed
-placed_in_life lives p = record { place = p.place; what = in_life lives p.what }
-
 -- the first life of each location
 abbrev pub first_lives : ℕ → ℕ
 first_lives l = 0

@@ -14,7 +14,7 @@ use Rattle.shadow.specs.Shadow.{Shadow, kept_of}
 use Rattle.shadow.specs.Found.{state_after, found}
 use Rattle.shadow.specs.SpBags.{SpBags}
 use Rattle.collect.specs.Collected.{Collection, KeepsBest, races_of, fails}
-use Rattle.blocks.specs.Blocks.{Blocks, kept_in_blocks, next_place_of, count_of_blocks}
+use Rattle.blocks.specs.Blocks.{Blocks, kept_in_blocks}
 use Rattle.online.specs.Lives.{named, at_home}
 
 -- its bags with the shadow memory of odd locations, the shadow memory of even ones, the races that are kept for the
@@ -28,11 +28,6 @@ pub record Online : Type 0 where
 -- a growth was refused
 abbrev pub IsStopped : Online → Type 0
 IsStopped d = d.stopped ≡ true
-
--- the blocks may take accesses behind the last record
-pub record AreBehind (blocks : Blocks) (s : SpBags) : Type 0 where
-  pub next_place : next_place_of blocks ≤ s.last_place + 1
-  pub known : count_of_blocks blocks ≤ s.bags.count
 
 -- what both shadow memories keep of a location
 abbrev pub kept_in_both : Shadow → Blocks → ℕ → Cell

@@ -12,13 +12,14 @@ ghost use Rattle.dag.specs.Traces.{IsWellNested};
 ghost use Rattle.shadow.specs.Found.{by_location, found, verdict};
 ghost use Rattle.collect.specs.Collected.{KeepsBest};
 ghost use Rattle.verdict.specs.Reported.{IsReportOf};
-ghost use Rattle.online.specs.Accesses.{accesses, block_accesses, block_records};
+ghost use Rattle.online.specs.Accesses.{accesses, block_records};
 ghost use Rattle.verdict.specs.Racy.{HasLocation};
 ghost use Rattle.online.specs.Lives.{in_life, first_lives, lives_after, AreOfFirstLives};
 ghost use Rattle.online.specs.Lives.{IsReportOfLives, HasRacyLife, IsRaceCount};
 ghost use Rattle.online.specs.Online.{HasTakenPlaced, IsAfter, IsStopped, MayWant};
-ghost use Rattle.online.specs.Steps.{HasTakenMore, RefusesRecords, IsAdmission, HasFollowedNext, Wants, IsApart};
-ghost use Rattle.online.specs.Steps.{TakesPlaced, HasOnlyAccessed, HasForgottenUnits};
+ghost use Rattle.online.specs.Steps.{HasTakenMore, RefusesRecords};
+ghost use Rattle.online.specs.Following.{block_accesses, IsAdmission, HasFollowedNext, Wants, IsApart, TakesPlaced};
+ghost use Rattle.online.specs.Following.{HasOnlyAccessed, HasForgottenUnits};
 
 use blocks::BlockShadow;
 use collect::{Collector, Report};
@@ -59,7 +60,8 @@ pub struct Detector<S: BuildHasher + Drop> {
 impl<S: BuildHasher + Drop> Model for Detector<S> {
     ghost use Rattle.std.specs.Coded.{codes};
     ghost use Rattle.bags.specs.Procedures.{coded_procedures};
-    ghost use Rattle.online.specs.Online.{Online, AreBehind};
+    ghost use Rattle.online.specs.Online.{Online};
+    ghost use Rattle.online.specs.Following.{AreBehind};
 
     ghost Value = { Online };
 

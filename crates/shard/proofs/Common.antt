@@ -1,5 +1,5 @@
 -- The names of other crates and of the definitions that the proofs here cite.
-pub use Rattle.std.proofs.Common.{◌≡◌, List, [], sym, ◌∷◌, ◌++◌, ap, refl, subst, false, ◌∙◌, ◌+◌, length, Option, option_to_list, true, ℕ, ◌-◌, take, Some, ⊎_elim, arith, inl, inr, ◌≤◌, ◌^◌, map, append_assoc, append-nil, suc, ◌↔◌, None, Bool, true≢false, zero, ◌<◌, slice_get, ◌⊎◌, IfSome, ◌==◌, ◌||◌, eq-eqb, eqb-true, min, length-append, rules}
+pub use Rattle.std.proofs.Common.{◌≡◌, List, [], sym, ◌∷◌, ◌++◌, ap, refl, subst, false, ◌∙◌, ◌+◌, length, Option, option_to_list, true, ℕ, ◌-◌, take, Some, ⊎_elim, arith, inl, inr, ◌≤◌, ◌^◌, map, append_assoc, append-nil, suc, ◌↔◌, None, Bool, true≢false, zero, ◌<◌, slice_get, ◌⊎◌, ◌==◌, ◌||◌, min, length-append, rules}
 pub use Rattle.std.proofs.lemmas.Bool.{cases_Bool, cond-true, cond-false}
 pub use Rattle.std.proofs.lemmas.List.{length-map, map-append}
 pub use Rattle.dag.specs.Accesses.{RaceAt}
@@ -12,11 +12,12 @@ pub use Rattle.dag.specs.declared.records.Record.TheVariants.{Spawn, Call, Retur
 pub use Rattle.shadow.proofs.FoundLaws.{bags-after_record, found_from-append}
 pub use Rattle.shadow.proofs.StateLemmas.{seen_next, found_next, root_is, root_by}
 pub use Rattle.shadow.specs.Found.{State, found, race_of, state_at_start, state_from, found_from}
-pub use Rattle.shadow.specs.SpBags.{SpBags, Accepts, HasApplied, HasSeen, state_of, is_root_return}
+pub use Rattle.shadow.specs.SpBags.{SpBags, Accepts, HasApplied, state_of, is_root_return}
 pub use Rattle.lane.proofs.Marks.{records_next, records_append, all_to_mark}
 pub use Rattle.lane.specs.Items.{records, has_mark, IsBeginning}
 pub use Rattle.lane.specs.Lanes.{put_of, IsUnmarked}
 pub use Rattle.lane.specs.declared.item.Item.{Item}
 pub use Rattle.lane.specs.declared.item.Item.TheVariants.{One, Finish}
 pub use Rattle.shard.specs.Shards.{ShardState, IsFresh, capped_count}
-pub use Rattle.shard.specs.Working.{HasWorked, AreInOrder, PutsFound, Follow, IsOfShare, race_items, whats, RiseFrom, MayTake, HasStopped, out_of_order, no_memory, HasHandedBack, IsGoing}
+pub use Rattle.shard.specs.Working.{AreInOrder, PutsFound, IsOfShare, race_items, whats, RiseFrom, HasStopped, out_of_order, no_memory, HasHandedBack}
+pub use Rattle.shard.specs.Going.{HasWorked, Follow, MayTake, IsGoing}

@@ -1,3 +1,4 @@
 pub mod Shards
 pub mod Worked
 pub mod Working
+pub mod Going

@@ -1,12 +1,11 @@
 //! A worker: a shard, and its lane back.
-ghost use Rattle.std.specs.Prelude.{◌≡◌, false, List, [], ◌∷◌, ◌++◌, map};
+ghost use Rattle.std.specs.Prelude.{◌≡◌, List, [], ◌∷◌, ◌++◌, map};
 ghost use Rattle.std.specs.Option.{option_to_list};
 ghost use Rattle.dag.specs.declared.records.Placed.{Placed};
-ghost use Rattle.lane.specs.declared.item.Item.{Item};
 ghost use Rattle.lane.specs.declared.item.Item.TheVariants.{One};
 ghost use Rattle.lane.specs.Items.{records};
 ghost use Rattle.lane.specs.Lanes.{put_of, IsUnmarked};
-ghost use Rattle.shard.specs.Working.{HasWorked};
+ghost use Rattle.shard.specs.Going.{HasWorked};
 
 use crate::Back;
 use crate::backs::put_back;

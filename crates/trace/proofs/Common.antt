@@ -33,7 +33,8 @@ pub use Rattle.trace.specs.Endings.{HoldsTrace, IsRefused, EndsReading, IsWantOf
 pub use Rattle.trace.specs.Faults.{IsBadLine, IsFirstFault, IsFaultOfAll, HasEnded, IsTruncated, IsMisplaced, IsBadPlace, bad_place, IsNoRecord, bad_header, bad_line, too_many, truncated, unfinished, IsJudged, at_end, at_length, no_header, no_line_end, after_end, too_deep, AreNested, none, next, IsNoHeader, before_end}
 pub use Rattle.trace.specs.Feeding.{Feeding, HasFed, IsNext, IsFaultFed, HasUsed, IsFed, HasSameLimits, IsWhole, IsFaultThen, before_all, GivesNext, EndsAsAnswered}
 pub use Rattle.trace.specs.Nesting.{Nesting, HasNested}
-pub use Rattle.trace.specs.Reading.{Reading, HasRead, AreBytes, AllFitIn, AreText, held_back, IsBetweenLines}
+pub use Rattle.trace.specs.Reading.{Reading, HasRead, AreBytes, AllFitIn, AreText, held_back}
+pub use Rattle.trace.specs.Easy.{IsBetweenLines}
 pub use Rattle.trace.specs.Text.{text, line, ended, IsUnended, newline, header, AllFit, spell, IsOpen, HasCalls}
 pub use Rattle.trace.specs.UsedUp.{HasUsedAll}
 pub use Rattle.trace.specs.declared.faults.Fault.{Fault}

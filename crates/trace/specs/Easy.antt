@@ -1,10 +1,15 @@
 -- Private: how a feed stands that reads its next records with no look at it.
-use Rattle.std.specs.Prelude.{◌≡◌, ℕ, ◌+◌, ◌≤◌, ◌<◌, None, false}
-use Rattle.trace.specs.declared.intake.Ending.{Ending}
-use Rattle.trace.specs.declared.intake.Ending.TheVariants.{Running}
+use Rattle.std.specs.Prelude.{◌≡◌, ℕ, ◌+◌, ◌≤◌, [], None, is_some, IsTrue, ◌<◌, false}
 use Rattle.dag.specs.Bounds.{most_records}
 use Rattle.trace.specs.Nesting.{Nesting}
-use Rattle.trace.specs.Reading.{Reading, IsBetweenLines}
+use Rattle.trace.specs.Reading.{Reading}
+use Rattle.trace.specs.declared.intake.Ending.{Ending}
+use Rattle.trace.specs.declared.intake.Ending.TheVariants.{Running}
+
+-- the header has come, and no byte of a line that isn't ended
+pub record IsBetweenLines (s : Reading) : Type 0 where
+  pub begun : IsTrue (is_some s.version)
+  pub nothing_held : s.rest ≡ []
 
 -- So many records more are within the reader's limit. If there are any, it stands between two lines and has met no
 -- fault.

@@ -1,13 +1,12 @@
 -- Promised: what a reader of a trace's text has read: whole records, and an unfinished line.
-use Rattle.std.specs.Prelude.{◌≡◌, ℕ, ◌+◌, ◌≤◌, List, [], ◌++◌, length, Option, None}
-use Rattle.std.specs.Prelude.{Some, is_some, IsTrue, Result, IfOk, IfErr}
+use Rattle.std.specs.Prelude.{◌≡◌, ℕ, ◌+◌, ◌≤◌, List, [], ◌++◌, length, Option, None, Some, Result, IfOk, IfErr}
 use Rattle.std.specs.Option.{option_to_list}
 use Rattle.dag.specs.declared.records.Version.{Version}
 use Rattle.dag.specs.declared.records.Record.{Record}
-use Rattle.trace.specs.declared.faults.TextFault.{TextFault}
-use Rattle.trace.specs.declared.reading.Taken.{Taken}
 use Rattle.dag.specs.Bounds.{most_records, longest_line}
 use Rattle.trace.specs.Text.{header, ended, text, AllFit, IsOpen}
+use Rattle.trace.specs.declared.faults.TextFault.{TextFault}
+use Rattle.trace.specs.declared.reading.Taken.{Taken}
 
 -- a reader: its limit on records, the version once the header has come, how many records it has given, the
 -- bytes of the unfinished line, and the fault that it has met
@@ -44,11 +43,6 @@ pub record HasRead (w : List Record) (bytes : List ℕ) (s : Reading) : Type 0 w
   pub count_is : s.count ≡ length w
   pub within : length w ≤ s.limit
   pub no_fault : s.fault ≡ None
-
--- the header has come, and no byte of a line that isn't ended
-pub record IsBetweenLines (s : Reading) : Type 0 where
-  pub begun : IsTrue (is_some s.version)
-  pub nothing_held : s.rest ≡ []
 
 -- how many bytes are held back: those of the header, and those of the unfinished line
 abbrev pub header_length : Option Version → ℕ

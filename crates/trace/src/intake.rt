@@ -1,14 +1,10 @@
 //! Records with their places, from a source of bytes: a buffer, a reader of lines and a nest, and how they have
 //! ended.
-ghost use Rattle.std.specs.Prelude.{◌≡◌, ◌≢◌, ℕ, ◌+◌, ◌≤◌, ◌<◌, List, [], ◌++◌, ◌∷◌, length, take, true, false};
-ghost use Rattle.std.specs.Prelude.{Option, Ok, Err, Some, None, IfOk, IfErr, OnErr, IfSome};
-ghost use Rattle.std.specs.Option.{option_to_list};
-ghost use Rattle.dag.specs.declared.records.Record.{Record};
-ghost use Rattle.trace.specs.Devices.{Device, Change, ◌⇝◌, Counts, Gave, IsUsedUp, IsSteady};
+ghost use Rattle.std.specs.Prelude.{◌≡◌, ◌≢◌, ℕ, ◌+◌, ◌≤◌, ◌<◌, List, [], ◌++◌, length, take, true, false};
+ghost use Rattle.std.specs.Prelude.{Ok, Err, Some, None, OnErr, IfSome};
+ghost use Rattle.trace.specs.Devices.{Device, ◌⇝◌, Counts, Gave, IsUsedUp};
 ghost use Rattle.trace.specs.declared.faults.Fault.TheVariants as faults;
-ghost use Rattle.trace.specs.Faults.{IsBadLine, IsFirstFault};
-ghost use Rattle.trace.specs.Reading.{held_back};
-ghost use Rattle.dag.specs.Bounds.{most_records, longest_line};
+ghost use Rattle.dag.specs.Bounds.{longest_line};
 
 use crate::cut::LONGEST;
 use crate::devices::{Failed, Source};

@@ -1,6 +1,6 @@
 //! How the procedures of a trace nest: each record gets its place, and a record may come only while a procedure runs.
 ghost use Rattle.std.specs.Prelude.{◌≡◌, ℕ, ◌≤◌, ◌+◌, ◌<◌, ◌++◌, ◌∷◌, [], List};
-ghost use Rattle.std.specs.Prelude.{length, IfOk, IfErr, OnOk, OnErr, MatchResult};
+ghost use Rattle.std.specs.Prelude.{IfOk, IfErr, OnOk, OnErr};
 ghost use Rattle.std.specs.Prelude.{IfSome, IfNone, false, ◌⊎◌};
 ghost use Rattle.dag.specs.declared.records.Record.{Record};
 ghost use Rattle.dag.specs.declared.records.Record.TheVariants.{Return};

@@ -138,8 +138,8 @@ impl Model for Reader {
 }
 
 impl Reader {
-    ghost use Rattle.trace.specs.Reading.{at_first_byte, HasRead, AreText, HasReadFront, HasReadPiece, IsBetweenLines};
-    ghost use Rattle.trace.specs.Easy.{HasRoomFor};
+    ghost use Rattle.trace.specs.Reading.{at_first_byte, HasRead, AreText, HasReadFront, HasReadPiece};
+    ghost use Rattle.trace.specs.Easy.{HasRoomFor, IsBetweenLines};
     ghost use Rattle.trace.specs.Fronts.{without_record};
 
     /// A reader of a text of at most `max_records` records. It has read nothing.
