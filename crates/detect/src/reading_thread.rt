@@ -1,5 +1,5 @@
 //! The reading thread: it sends the records of the source to the shards, and at last the marks.
-ghost use Rattle.std.specs.Prelude.{◌≡◌, ◌++◌, ◌∷◌, [], List, IsErr, OnOk, IsFalse};
+ghost use Rattle.std.specs.Prelude.{◌≡◌, ◌++◌, ◌∷◌, [], List, OnOk, IsFalse};
 ghost use Rattle.std.specs.Option.{option_to_list};
 ghost use Rattle.dag.specs.declared.records.Placed.{Placed};
 ghost use Rattle.dag.specs.Traces.{placed};
@@ -47,21 +47,13 @@ impl ReadingThread {
         let mut intake = Intake::new(limits);
         'records: loop {
             match intake.next_known() {
-                Some(placed) => {
-                    if let Err(Full) = self.put(placed) {
-                        self.send_rest(rt, placed.place)?;
-                    }
-                }
+                Some(placed) => self.send(rt, placed)?,
                 None => {
                     self.router.flush();
                     self.gathering.take_backs()?;
                     match self.read_on(&mut intake, source)? {
                         None => return Ok(()),
-                        Some(placed) => {
-                            if let Err(Full) = self.put(placed) {
-                                self.send_rest(rt, placed.place)?;
-                            }
-                        }
+                        Some(placed) => self.send(rt, placed)?,
                     }
                 }
             }
@@ -82,23 +74,22 @@ impl ReadingThread {
         intake.next_from(source)
     }
 
-    // Puts what the part has of the record on its lanes. If one of them is full, the record is pending.
+    // Sends what the part has of the record.
     #[inline(always)]
-    fn put(&mut self, placed: Placed) -> Result<(), Full>
+    fn send<T: Wait + Clock>(&mut self, rt: &T, placed: Placed) -> Result<(), NoMemory>
         requires { MaySend self.old }
-        ensures sent { OnOk result ((w : List Placed) → HasSent (records_of self.old.part w) self.old.router
-            → HasSent (records_of self.old.part (w ++ placed ∷ [])) self.new.router) }
-        ensures lacks { IsErr result → (w : List Placed) → HasSent (records_of self.old.part w) self.old.router
-            → LacksLast (records_of self.old.part (w ++ placed ∷ [])) self.new.router }
+        ensures sent { (w : List Placed) → HasSent (records_of self.old.part w) self.old.router
+            → HasSent (records_of self.old.part (w ++ placed ∷ [])) self.new.router }
         ensures ready { OnOk result (MaySend self.new) }
-        ensures unmarked { self.new.router.marked ≡ 0 }
-        ensures stuck { IsErr result → IsStuck self.new.router self.new.router.next }
+        ensures idle { self.new.router.pending ≡ None }
         ensures goes_on { GoesOn self.old self.new }
     {
-        match record_of_part(self.part, placed) {
-            Some(own) => self.router.send(own),
-            None => Ok(()),
+        if let Some(own) = record_of_part(self.part, placed) {
+            if let Err(Full) = self.router.send(own) {
+                return self.send_rest(rt, placed.place);
+            }
         }
+        Ok(())
     }
 
     // Puts the pending record on the lanes that lack it; the next of them was full.

@@ -1,5 +1,5 @@
 //! Detection with a thread for each shard.
-ghost use Rattle.std.specs.Prelude.{◌≡◌, All, Err, IfOk, map, vec_len};
+ghost use Rattle.std.specs.Prelude.{◌≡◌, All, Err, IfOk, vec_len};
 ghost use Rattle.trace.specs.declared.faults.Fault.TheVariants.{NoThread};
 ghost use Rattle.trace.specs.Devices.{◌⇝◌};
 ghost use Rattle.trace.specs.Endings.{EndsReading, IsWantOfMemoryOrThread};

@@ -1,9 +1,9 @@
 //! The workers: their jobs and their promise. Each starts in the scope of the run, and is joined at its end.
-ghost use Rattle.std.specs.Prelude.{◌≡◌, ◌≤◌, ℕ, map, vec_len, vec_capacity, IfErr, OnOk, MatchResult};
+ghost use Rattle.std.specs.Prelude.{◌≡◌, ◌≤◌, map, vec_len, vec_capacity, IfErr, OnOk, MatchResult};
 ghost use Rattle.trace.specs.declared.faults.Fault.TheVariants.{NoThread};
 ghost use Rattle.lane.specs.Items.{IsBeginning};
 ghost use Rattle.shard.specs.Worked.{DidWork};
-ghost use Rattle.detect.specs.Workers.{IsFreshJob, AllFresh, job_lanes, handle_lanes, DidOn, AllDid};
+ghost use Rattle.detect.specs.Workers.{IsFreshJob, AllFresh, job_lanes, handle_lanes, AllDid};
 
 use lane::{Sender, Taker};
 use shard::{Back, Gate, Shard, Worked, work};

@@ -36,71 +36,12 @@ records-preserved-in-Continue-1 g c =
       came = i.came ++ next.0;
       gave = consumes_more _ _ _ i.came next.0 i.gave next.1;
       fed = next.2.1;
-      sent = sent_more c.args.self.now c.records.self c.send_rest.new.self i.trace c.in-Some.placed next.2.0 i.goes_on (λ h. c.send_rest.ensures.sent _ (c.in-Err.ensures.lacks refl (placed i.trace) h)) i.sent;
-      ready = c.in_ok-send_rest-in-Some.ensures.ready;
-      goes_on = goes_on_trans _ _ _ i.goes_on (goes_on_trans _ _ _ c.put.ensures.goes_on c.send_rest.ensures.goes_on);
+      sent = sent_more c.args.self.now c.records.self c.send.new.self i.trace c.in-Some.placed next.2.0 i.goes_on (c.send.ensures.sent (placed i.trace)) i.sent;
+      ready = c.in_ok-send-in-Some.ensures.ready;
+      goes_on = goes_on_trans _ _ _ i.goes_on c.send.ensures.goes_on;
       steady = next.2.2 ∙ i.steady;
       records = answer.limits.records ∙ i.records;
       depths = answer.limits.depths ∙ i.depths;
-    }
-
-pub records-smaller-in_default : goal.records-smaller-in_default
-records-smaller-in_default g c =
-    let i = c.records.invariant in
-    let answer = c.in-Some.ensures.next (g.R.Source.state c.records.source) in
-    let next = answer.fed i.trace i.came i.fed in
-    fewer_left _ i.trace _ _ _ c.records.intake _ i.fed next.2.1 answer.limits.records i.records
-
-pub records-preserved-in_default : goal.records-preserved-in_default
-records-preserved-in_default g c =
-    let i = c.records.invariant in
-    let answer = c.in-Some.ensures.next (g.R.Source.state c.records.source) in
-    let next = answer.fed i.trace i.came i.fed in
-    record {
-      trace = i.trace ++ c.in-Some.placed.what ∷ [];
-      came = i.came ++ next.0;
-      gave = consumes_more _ _ _ i.came next.0 i.gave next.1;
-      fed = next.2.1;
-      sent = sent_more c.args.self.now c.records.self c.put.new.self i.trace c.in-Some.placed next.2.0 i.goes_on (c.in_default.ensures.sent (placed i.trace)) i.sent;
-      ready = c.in_default.ensures.ready;
-      goes_on = goes_on_trans _ _ _ i.goes_on c.put.ensures.goes_on;
-      steady = next.2.2 ∙ i.steady;
-      records = answer.limits.records ∙ i.records;
-      depths = answer.limits.depths ∙ i.depths;
-    }
-
-pub records-smaller-in-Continue-branch-5 : goal.records-smaller-in-Continue-branch-5
-records-smaller-in-Continue-branch-5 g c =
-    let i = c.records.invariant in
-    let same : c.next_known.new.self ≡ c.records.intake = search rules in
-    let kept : HasFed i.trace i.came c.next_known.new.self = subst (HasFed i.trace i.came) (sym same) i.fed in
-    let fed = c.in_ok-read_on-in-None.ensures.fed i.trace i.came kept in
-    let change : Change = g.R.Source.state c.records.source ⇝ g.R.Source.state c.read_on.new.source in
-    let next = given_next _ _ _ _ change _ _ _ c.in-Some-2.is fed.2 in
-    fewer_left _ i.trace _ _ _ c.records.intake _ i.fed next.1 (c.read_on.ensures.limits.records ∙ ap (λ (s : Feeding). s.reading.limit) same) i.records
-
-pub records-preserved-in-Continue-branch-5 : goal.records-preserved-in-Continue-branch-5
-records-preserved-in-Continue-branch-5 g c =
-    let i = c.records.invariant in
-    let same : c.next_known.new.self ≡ c.records.intake = search rules in
-    let kept : HasFed i.trace i.came c.next_known.new.self = subst (HasFed i.trace i.came) (sym same) i.fed in
-    let fed = c.in_ok-read_on-in-None.ensures.fed i.trace i.came kept in
-    let change : Change = g.R.Source.state c.records.source ⇝ g.R.Source.state c.read_on.new.source in
-    let next = given_next _ _ _ _ change _ _ _ c.in-Some-2.is fed.2 in
-    let taken : ReadingThread = record c.records.self { router = c.flush.new.self; gathering = c.take_backs.new.self } in
-    let goes_on = goes_on_trans _ _ _ i.goes_on (goes_on_both c.records.self c.flush.new.self c.take_backs.new.self c.flush.ensures.unchanged.on c.take_backs.ensures.further) in
-    let before = c.flush.ensures.unchanged.sent (records_of c.args.self.now.part (placed i.trace)) i.sent in
-    record {
-      trace = i.trace ++ c.in-Some-2.placed.what ∷ [];
-      came = i.came ++ fed.0;
-      gave = consumes_more _ _ _ i.came fed.0 i.gave fed.1;
-      fed = next.1;
-      sent = sent_more c.args.self.now taken c.send_rest-in-Err-put.new.self i.trace c.in-Some-2.placed next.0 goes_on (λ h. c.send_rest-in-Err-put.ensures.sent _ (c.in-Err-put.ensures.lacks refl (placed i.trace) h)) before;
-      ready = c.in_ok-send_rest-in-Some-2.ensures.ready;
-      goes_on = goes_on_trans _ _ _ goes_on (goes_on_trans _ _ _ c.put-in-Some-2.ensures.goes_on c.send_rest-in-Err-put.ensures.goes_on);
-      steady = next.2 ∙ i.steady;
-      records = c.read_on.ensures.limits.records ∙ ap (λ (s : Feeding). s.reading.limit) same ∙ i.records;
-      depths = c.read_on.ensures.limits.depths ∙ ap (λ (s : Feeding). s.nesting.max_depth) same ∙ i.depths;
     }
 
 pub records-smaller : goal.records-smaller
@@ -129,9 +70,9 @@ records-preserved g c =
       came = i.came ++ fed.0;
       gave = consumes_more _ _ _ i.came fed.0 i.gave fed.1;
       fed = next.1;
-      sent = sent_more c.args.self.now taken c.put-in-Some-2.new.self i.trace c.in-Some-2.placed next.0 goes_on (c.in_default-put.ensures.sent (placed i.trace)) before;
-      ready = c.in_default-put.ensures.ready;
-      goes_on = goes_on_trans _ _ _ goes_on c.put-in-Some-2.ensures.goes_on;
+      sent = sent_more c.args.self.now taken c.send-in-Some-2.new.self i.trace c.in-Some-2.placed next.0 goes_on (c.send-in-Some-2.ensures.sent (placed i.trace)) before;
+      ready = c.in_ok-send-in-Some-2.ensures.ready;
+      goes_on = goes_on_trans _ _ _ goes_on c.send-in-Some-2.ensures.goes_on;
       steady = next.2 ∙ i.steady;
       records = c.read_on.ensures.limits.records ∙ ap (λ (s : Feeding). s.reading.limit) same ∙ i.records;
       depths = c.read_on.ensures.limits.depths ∙ ap (λ (s : Feeding). s.nesting.max_depth) same ∙ i.depths;
