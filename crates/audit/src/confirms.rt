@@ -1,6 +1,6 @@
 //! Whether the entries of a report are races: what is kept of a trace for this, and the answer.
 ghost use Rattle.std.specs.Prelude.{◌≡◌, ◌≢◌, ◌<◌, ℕ, suc, List, [], length, map};
-ghost use Rattle.std.specs.Prelude.{slice_get, Some, IfSome, IfNone, IfOk, OnOk};
+ghost use Rattle.std.specs.Prelude.{slice_get, Some, IfSome, IfNone, IfOk};
 ghost use Rattle.dag.specs.declared.records.Record.{Record};
 ghost use Rattle.dag.specs.Accesses.{IsRaceShape};
 ghost use Rattle.dag.specs.Races.{IsAccess};

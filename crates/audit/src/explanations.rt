@@ -52,7 +52,6 @@ pub(crate) struct Explaining {
 }
 
 impl Explaining {
-    ghost use Rattle.dag.specs.Traces.{IsWellNested};
     ghost use Rattle.dag.specs.Races.{IsAccess, IsRace};
     ghost use Rattle.std.specs.Prelude.{ℕ, suc};
     ghost use Rattle.audit.specs.Following.{WhateverComes};

@@ -1,6 +1,5 @@
 //! All races of one location: each access is compared with those before it.
-ghost use Rattle.std.specs.Prelude.{◌≡◌, ◌≢◌, ℕ, List, [], length, Bool, ◌||◌, OnOk, MatchOption};
-ghost use Rattle.dag.specs.declared.records.Record.{Record};
+ghost use Rattle.std.specs.Prelude.{◌≡◌, ◌≢◌, [], length, ◌||◌, OnOk, MatchOption};
 ghost use Rattle.dag.specs.declared.records.Kind.{Kind};
 ghost use Rattle.dag.specs.Accesses.{writes};
 ghost use Rattle.dag.specs.Races.{access};

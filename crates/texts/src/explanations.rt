@@ -1,5 +1,5 @@
 //! The text of the answer to `explain`, put into a sink.
-ghost use Rattle.std.specs.Prelude.{◌≡◌, codes};
+ghost use Rattle.std.specs.Prelude.{codes};
 ghost use Rattle.trace.specs.Devices.{◌⇝◌};
 ghost use Rattle.trace.specs.Writers.{Puts};
 ghost use Rattle.collect.specs.ReportText.{race_line};

@@ -1,5 +1,5 @@
 //! What the program is asked: a command with its numbers and file names, each in its range.
-ghost use Rattle.std.specs.Prelude.{◌≡◌, ◌<◌, ◌≤◌, All, AllPairs, string_len, string_bytes, codes, vec_len};
+ghost use Rattle.std.specs.Prelude.{◌≡◌, ◌<◌, All, AllPairs, string_len, string_bytes, codes, vec_len};
 ghost use Rattle.dag.specs.Bounds.{IsShardCount, IsCapacity, IsDepth};
 ghost use Rattle.words.specs.Names.{IsName, IsOneStandard};
 

@@ -1,5 +1,5 @@
 //! The command line: what its words ask for.
-ghost use Rattle.std.specs.Prelude.{◌≡◌, ◌<◌, ◌≤◌, codes, decimal, map, option_map, string_bytes, IfOk, IfSome};
+ghost use Rattle.std.specs.Prelude.{◌≡◌, ◌<◌, codes, decimal, map, option_map, string_bytes, IfOk, IfSome};
 ghost use Rattle.dag.specs.Bounds.{IsShardCount, IsCapacity, IsDepth};
 ghost use Rattle.words.specs.Asked.{IsInRange};
 ghost use Rattle.words.specs.Meaning.{IsDepthAsked, IsLocationAsked, IsNamedBy, IsNumberAsked, Means, MeansOf};
