@@ -1,5 +1,5 @@
 -- The names of other crates and of the definitions that the proofs here cite.
-pub use Rattle.std.proofs.Common.{refl, subst, ℕ, List, ◌≡◌, inl, inr, sym, ap, ◌<◌, [], Option, arith, Result, ◌∙◌, ◌∷◌, None, string_bytes, ◌↔◌, Ok, Err, String, ◌+◌, take, Some, ◌≤◌, ◌⊎◌, false, ◌==◌, if◌then◌else◌, suc, ◌++◌, length, map, get_or, drop, take-append-drop, drop-cons, length-take-le, IsErrAnd, MatchResult}
+pub use Rattle.std.proofs.Common.{refl, subst, ℕ, List, ◌≡◌, inl, inr, sym, ap, ◌<◌, [], Option, arith, Result, ◌∙◌, ◌∷◌, None, string_bytes, ◌↔◌, Ok, Err, String, ◌+◌, take, Some, ◌≤◌, ◌⊎◌, false, suc, ◌++◌, length, map, get_or, drop, take-append-drop, drop-cons, length-take-le, IsErrAnd, MatchResult}
 pub use Rattle.std.proofs.KnownBytes.{Keeps-refl}
 pub use Rattle.std.specs.Fn.{FnReturnsAt}
 pub use Rattle.std.specs.Prelude.{⊤}

@@ -41,12 +41,12 @@ module _ {IsWant : Fault → Type 0} {records depths : ℕ} {Says : List Record 
   }
 
   -- a fault whose line was written is why there is no answer
-  pub refused : {limit depth : ℕ} {f : Fault} → limit ≡ records → depth ≡ depths → IsRefused IsWant limit depth trace f → IsUntouched out → WasGiven (message f) err → IsAnswered IsWant records depths Says trace out err 2
-  refused {limit} {depth} {f} e e' why untouched given =
+  pub refused : {limit depth : ℕ} {f : Fault} {status : ℕ} → limit ≡ records → depth ≡ depths → IsRefused IsWant limit depth trace f → IsUntouched out → status ≡ 2 → WasGiven (message f) err → IsAnswered IsWant records depths Says trace out err status
+  refused {limit} {depth} {f} e e' why untouched two given =
       let At : ℕ → ℕ → Type 0 = λ r d. IsRefused IsWant r d trace f in
       record {
-        low = omega arith;
-        answered = λ less. absurd (omega (arith, less));
+        low = omega (arith, two);
+        answered = λ less. absurd (omega (arith, two, less));
         failed = λ _. inl (record { fault = f; refused = at_limits At limit records depth depths e e' why; untouched = untouched; said = given });
       }
 

@@ -1,10 +1,11 @@
 //! The answers of the program: what goes to standard output and to standard error, and the exit status.
 ghost use Rattle.std.specs.Prelude.{◌≡◌, ◌<◌, ◌↔◌, ℕ, [], List, IfSome, IfNone, IfOk, MatchResult, vec_len};
-ghost use Rattle.std.specs.Prelude.{OnOk, false};
+ghost use Rattle.std.specs.Prelude.{OnOk};
 ghost use Rattle.trace.specs.Devices.{Device, ◌⇝◌, HasPassedOn};
 ghost use Rattle.trace.specs.Writers.{IsUntouched, TookFront, WasGiven, Puts};
 ghost use Rattle.trace.specs.Endings.{EndsReading, IsWantOfMemoryOrThread};
 ghost use Rattle.detect.specs.RunReports.{RunAnswersPart};
+ghost use Rattle.texts.specs.Messages.{message};
 ghost use Rattle.texts.specs.Sinks.{EndsAnswer};
 ghost use Rattle.words.specs.Asked.{depth_of};
 ghost use Rattle.words.specs.Refusals.{help_of, refusal};
@@ -68,10 +69,7 @@ fn answer_check<T: Threads + Wait + Clock + Sync, R: Source, W: Sink, E: Sink>(
             let put = write_report(&ran.report, out);
             finish(put, status_of_found(ran.report.races()), out, err)
         }
-        Err(fault) => {
-            say_fault(&fault, err);
-            2
-        }
+        Err(fault) => no_answer(&fault, err),
     }
 }
 
@@ -118,6 +116,15 @@ pub(crate) fn status_of_found<X>(found: &[X]) -> u8
     ensures zero { (result ≡ 0) ↔ (found.now ≡ []) }
 {
     if found.is_empty() { 0 } else { 1 }
+}
+
+// Says why there is no answer, and gives the exit status.
+pub(crate) fn no_answer<E: Sink>(fault: &Fault, err: &mut E) -> u8
+    ensures two { result ≡ 2 }
+    ensures said { WasGiven (message fault.now) (E.state err.old ⇝ E.state err.new) }
+{
+    say_fault(fault, err);
+    2
 }
 
 // Ends an answer in `out`: passes it on, and gives its status, or 2 if writing it failed.
@@ -174,9 +181,6 @@ pub fn refuse<W: Sink, E: Sink>(fault: &WordsFault, out: &mut W, err: &mut E) ->
             let put = put_all(out, text.as_bytes());
             finish(put, 0, out, err)
         }
-        WordsFault::NoMemory => {
-            say(b"spbags: out of memory\n", err);
-            2
-        }
+        WordsFault::NoMemory => no_answer(&Fault::NoMemory, err),
     }
 }

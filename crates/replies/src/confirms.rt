@@ -6,11 +6,11 @@ ghost use Rattle.replies.specs.Questions.{AnswersConfirm, status_of};
 ghost use Rattle.dag.specs.Bounds.{most_records};
 ghost use Rattle.replies.specs.Answered.{IsAnswered, IsConfirmed};
 
-use crate::answers::{finish, limits_of};
+use crate::answers::{finish, limits_of, no_answer};
 use audit::{Confirm, confirm};
 use collect::{Report, report_from};
 use std::alloc::Global;
-use texts::{put_confirm, say_fault, say_refusal};
+use texts::{put_confirm, say_refusal};
 use trace::{Sink, Source};
 use words::ConfirmWords;
 
@@ -55,10 +55,7 @@ fn answer_entries<R: Source, W: Sink, E: Sink>(
             let put = put_confirm(answer, out);
             finish(put, status_of(answer), out, err)
         }
-        Err(fault) => {
-            say_fault(&fault, err);
-            2
-        }
+        Err(fault) => no_answer(&fault, err),
     }
 }
 

@@ -2,11 +2,7 @@
 #![tactic(auto)]
 
 ghost use Rattle.std.specs.Fn.{FnReturnsAt};
-ghost use Rattle.std.specs.Prelude.{◌≡◌};
 ghost use Rattle.trace.specs.Devices.{◌⇝◌};
-ghost use Rattle.trace.specs.Writers.{WasGiven};
-ghost use Rattle.trace.specs.declared.faults.Fault.TheVariants.{Read};
-ghost use Rattle.texts.specs.Messages.{message};
 ghost use Rattle.replies.specs.Files.{HasAnsweredOf, HasConfirmedOf, IsAnsweredOf, IsAnsweredOfFiles};
 ghost use Rattle.replies.specs.Inputs.{known_bytes};
 
@@ -16,6 +12,7 @@ mod input;
 mod merges;
 mod questions;
 
+use answers::no_answer;
 pub use answers::{answer, limits_of, refuse};
 pub use confirms::answer_confirm;
 pub use input::Input;
@@ -26,7 +23,6 @@ use std::io::Read;
 use std::sync::Wait;
 use std::thread::Threads;
 use std::time::Clock;
-use texts::say_fault;
 use trace::{Counted, Fault, Sink};
 use words::{Asked, ConfirmWords, Question};
 
@@ -89,7 +85,7 @@ where
 {
     let alloc = rt.alloc();
     let Some(trace) = Input::open(rt, question.trace(), opener) else {
-        return cannot_open(err);
+        return no_answer(&Fault::Read, err);
     };
     let mut trace = Counted::new(trace);
     answer(threads, alloc, question, &mut trace, out, err)
@@ -112,21 +108,12 @@ where
 {
     let alloc = rt.alloc();
     let Some(trace) = Input::open(rt, confirm.trace.as_str(), opener) else {
-        return cannot_open(err);
+        return no_answer(&Fault::Read, err);
     };
     let Some(report) = Input::open(rt, confirm.report.as_str(), opener) else {
-        return cannot_open(err);
+        return no_answer(&Fault::Read, err);
     };
     let mut trace = Counted::new(trace);
     let mut report = Counted::new(report);
     answer_confirm(alloc, confirm, &mut trace, &mut report, out, err)
-}
-
-// Says of a name that can't be opened what is said of a failed read, and gives the exit status.
-fn cannot_open<E: Sink>(err: &mut E) -> u8
-    ensures two { result ≡ 2 }
-    ensures said { WasGiven (message Read) (E.state err.old ⇝ E.state err.new) }
-{
-    say_fault(&Fault::Read, err);
-    2
 }

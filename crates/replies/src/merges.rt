@@ -9,13 +9,13 @@ ghost use Rattle.replies.specs.Inputs.{known_bytes};
 ghost use Rattle.replies.specs.Merges.{HasMergedOf, HasWrittenMerged, IsFirstRefused, IsRefusedReport};
 ghost use Rattle.replies.specs.Merging.{HasTakenReport, HaveTaken};
 
-use crate::answers::{finish, status_of_found};
+use crate::answers::{finish, no_answer, status_of_found};
 use crate::input::Input;
 use collect::{Collector, ReportRefusal, report_from, write_report};
 use std::io;
 use std::io::Read;
-use texts::{say, say_merge_refusal};
-use trace::{Counted, NoMemory, Sink};
+use texts::say_merge_refusal;
+use trace::{Counted, Fault, NoMemory, Sink};
 use words::MergeWords;
 
 /// Why there is no merged report: one of the reports was refused.
@@ -115,9 +115,6 @@ fn answer_merged<W: Sink, E: Sink>(collector: Collector, out: &mut W, err: &mut 
             let put = write_report(&report, out);
             finish(put, status_of_found(report.races()), out, err)
         }
-        Err(NoMemory) => {
-            say(b"spbags: out of memory\n", err);
-            2
-        }
+        Err(NoMemory) => no_answer(&Fault::NoMemory, err),
     }
 }

@@ -6,10 +6,10 @@ ghost use Rattle.replies.specs.Questions.{AnswersPairs, AnswersExplain, AnswersM
 ghost use Rattle.dag.specs.Bounds.{most_records};
 ghost use Rattle.replies.specs.Answered.{IsAnswered};
 
-use crate::answers::{finish, limits_of, status_of_found};
+use crate::answers::{finish, limits_of, no_answer, status_of_found};
 use audit::{Explained, explain, measure, pairs};
 use std::alloc::Global;
-use texts::{put_explained, put_measure, put_pairs, say_fault};
+use texts::{put_explained, put_measure, put_pairs};
 use trace::{Sink, Source};
 
 // All races of a location, and the exit status: 0 if there is none.
@@ -31,10 +31,7 @@ pub(crate) fn answer_pairs<R: Source, W: Sink, E: Sink>(
             let put = put_pairs(found, out);
             finish(put, status_of_found(found), out, err)
         }
-        Err(fault) => {
-            say_fault(&fault, err);
-            2
-        }
+        Err(fault) => no_answer(&fault, err),
     }
 }
 
@@ -56,10 +53,7 @@ pub(crate) fn answer_explain<R: Source, W: Sink, E: Sink>(
             let put = put_explained(&answer, out);
             finish(put, status_of_explained(&answer), out, err)
         }
-        Err(fault) => {
-            say_fault(&fault, err);
-            2
-        }
+        Err(fault) => no_answer(&fault, err),
     }
 }
 
@@ -91,9 +85,6 @@ pub(crate) fn answer_measure<R: Source, W: Sink, E: Sink>(
             let put = put_measure(&numbers, out);
             finish(put, 0, out, err)
         }
-        Err(fault) => {
-            say_fault(&fault, err);
-            2
-        }
+        Err(fault) => no_answer(&fault, err),
     }
 }

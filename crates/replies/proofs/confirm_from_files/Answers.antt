@@ -3,10 +3,10 @@ use Rattle.replies.proofs.Named.{not_opened, answered_both, is_untried}
 use Rattle.replies.proofs.confirm_from_files.Goals as goal
 
 pub returns-in_default : goal.returns-in_default
-returns-in_default g c = inl (not_opened _ (rw c.as_str.ensures.value at c.in_default.ensures.cannot) c.cannot_open.ensures.two c.cannot_open.ensures.said)
+returns-in_default g c = inl (not_opened _ (rw c.as_str.ensures.value at c.in_default.ensures.cannot) c.no_answer.ensures.two c.no_answer.ensures.said)
 
 pub returns-in_default-open : goal.returns-in_default-open
-returns-in_default-open g c = inr (inl (not_opened _ (rw c.as_str-2.ensures.value at c.in_default-open.ensures.cannot) c.cannot_open-in_default-open.ensures.two c.cannot_open-in_default-open.ensures.said))
+returns-in_default-open g c = inr (inl (not_opened _ (rw c.as_str-2.ensures.value at c.in_default-open.ensures.cannot) c.no_answer-in_default-open.ensures.two c.no_answer-in_default-open.ensures.said))
 
 pub returns : goal.returns
 returns g c =

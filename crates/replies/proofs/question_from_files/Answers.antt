@@ -3,7 +3,7 @@ use Rattle.replies.proofs.Named.{not_opened, answered_alone, is_untried}
 use Rattle.replies.proofs.question_from_files.Goals as goal
 
 pub returns-in_default : goal.returns-in_default
-returns-in_default g c = inl (not_opened _ (rw c.trace.ensures at c.in_default.ensures.cannot) c.cannot_open.ensures.two c.cannot_open.ensures.said)
+returns-in_default g c = inl (not_opened _ (rw c.trace.ensures at c.in_default.ensures.cannot) c.no_answer.ensures.two c.no_answer.ensures.said)
 
 pub returns : goal.returns
 returns g c =

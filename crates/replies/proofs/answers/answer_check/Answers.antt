@@ -12,4 +12,4 @@ returns-in-Ok g c =
     answered _ status (rtext report) c.status_of_found.ensures.low run (c.finish.ensures (rtext report) _ c.write_report-put.ensures)
 
 pub returns-in-Err : goal.returns-in-Err
-returns-in-Err g c = refused refl refl c.in-Err.ensures (untouched _) c.say_fault.ensures
+returns-in-Err g c = refused refl refl c.in-Err.ensures (untouched _) c.no_answer.ensures.two c.no_answer.ensures.said

@@ -14,4 +14,4 @@ returns-in-Ok g c =
     answered _ status (explained_text answer) low run (c.finish.ensures (explained_text answer) _ c.put_explained-put.ensures)
 
 pub returns-in-Err : goal.returns-in-Err
-returns-in-Err g c = refused c.limits_of.ensures.records c.limits_of.ensures.depth c.in-Err.ensures (untouched _) c.say_fault.ensures
+returns-in-Err g c = refused c.limits_of.ensures.records c.limits_of.ensures.depth c.in-Err.ensures (untouched _) c.no_answer.ensures.two c.no_answer.ensures.said

@@ -10,4 +10,4 @@ returns-in-Ok g c =
     answered _ 0 (measure_text numbers) low run (c.finish.ensures (measure_text numbers) _ c.put_measure-put.ensures)
 
 pub returns-in-Err : goal.returns-in-Err
-returns-in-Err g c = refused c.limits_of.ensures.records c.limits_of.ensures.depth c.in-Err.ensures (untouched _) c.say_fault.ensures
+returns-in-Err g c = refused c.limits_of.ensures.records c.limits_of.ensures.depth c.in-Err.ensures (untouched _) c.no_answer.ensures.two c.no_answer.ensures.said
