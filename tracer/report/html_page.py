@@ -14,7 +14,7 @@ from pygments import token  # type: ignore[import]
 from pygments.formatters.html import HtmlFormatter  # type: ignore[import]
 from pygments.lexers.c_cpp import CLexer, CppLexer  # type: ignore[import]
 
-from report import source_lines, stack_rows, text
+from report import ending, source_lines, stack_rows, text
 from report.function_names import function_of
 from report.pairs import Pair
 from report.result import Ended, Report
@@ -141,7 +141,7 @@ def meaning_of(report: Report) -> str:
     """Of the status, whatever number it is."""
     if report.pairs or report.not_shown.pairs:
         return "the report has races"
-    is_whole = not text.left_out_lines(report)
+    is_whole = not ending.left_out_lines(report)
     return (
         f"no race was found, {'and everything was seen and' if is_whole else 'but not everything was seen or'} modelled"
     )
@@ -167,12 +167,12 @@ def page_of(report: Report, status: int) -> str:
             program=os.path.basename(report.command[0]),
             command=shlex.join(report.command),
             report=report,
-            last_line=text.last_line(report),
+            last_line=ending.last_line(report),
             ended=ending_of(report.ended),
             status=status,
             meaning=meaning_of(report),
-            unseen=text.left_out_lines(report),
-            notes=[*report.notes, *map(text.suppression_line, report.suppressions)],
+            unseen=ending.left_out_lines(report),
+            notes=[*report.notes, *map(ending.suppression_line, report.suppressions)],
             groups=groups,
             most=WHOLE,
             numbers={lead: number for number, lead in enumerate(leads)},

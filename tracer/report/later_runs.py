@@ -1,11 +1,12 @@
 """What later runs of a program say of the races that its first run has: their stacks, and which of them are none. It is
 of use only where there are races."""
-from argparse import Namespace
 from typing import BinaryIO
 
 from report import result, source_lines, text
 from report.checker_answers import FIRST_FRESH, Places, Race, address_of, races_of, unit_of, units_of
+from report.ending import many
 from report.failure import Failure, reason_of
+from report.options import Options
 from report.outcome import Run
 from report.pairs import Pair, in_order, merged
 from report.program import Program
@@ -73,7 +74,7 @@ class LaterRuns:
     """The pairs of source positions, how many races they have and how many of these have no stacks, and what is to be
     said beside them."""
 
-    def __init__(self, runner: Runner, chosen: Namespace, unit: int) -> None:
+    def __init__(self, runner: Runner, chosen: Options, unit: int) -> None:
         self.runner, self.chosen, self.unit = runner, chosen, unit
         self.pairs: list[Pair] = []
         self.races = self.without_stacks = 0
@@ -112,7 +113,7 @@ class LaterRuns:
             self.find_pairs(more)
         if len(self.pairs) > before:
             self.notes.append(
-                f"{text.many(len(self.pairs) - before, 'pair')} of lines came of one more run, in which {which}. A "
+                f"{many(len(self.pairs) - before, 'pair')} of lines came of one more run, in which {which}. A "
                 "location may count in both"
             )
         return more.run if more and more.run.is_whole() else None
@@ -154,7 +155,7 @@ class LaterRuns:
             return
         first, *others = ordered
         lines = " and ".join(place(side.lead()) for side in first.sides)
-        more = f", and {text.many(len(others), 'more pair')}" if others else ""
+        more = f", and {many(len(others), 'more pair')}" if others else ""
         self.notes.append(
             f"the order in which children use {text.whole_name(first.variable)} isn't determined: "
             f"{lines}{more}. --streams reports this"
@@ -163,7 +164,7 @@ class LaterRuns:
     def tell_apart(self, first: Found, narrow: set[int], differs: bool) -> Found:
         """Where races of these units may be of neighbours: what a run finds that tells their bytes apart, unless
         another one was unlike the first."""
-        where = f"{text.many(len(narrow), 'location')}, in units of {self.unit} bytes"
+        where = f"{many(len(narrow), 'location')}, in units of {self.unit} bytes"
         reason = (
             "isn't made, as --one-run says" if self.chosen.one_run else "would take another path" if differs else None
         )
@@ -181,7 +182,7 @@ class LaterRuns:
         left = narrow - units_of(again.races)
         if left:
             self.notes.append(
-                f"{text.many(len(left), 'location')} {'is' if len(left) == 1 else 'are'} left out: only "
+                f"{many(len(left), 'location')} {'is' if len(left) == 1 else 'are'} left out: only "
                 f"neighbours meet there in a unit of {self.unit} bytes"
             )
         return again
@@ -264,10 +265,10 @@ class LaterRuns:
             self.notes.append(f"{notes.left} more races are of other pairs, for which a run has no room")
 
     def tell_unplaced(self, races: list[Race], places: Places | None) -> None:
-        many = sum(not all(places.site(access.place) for access in race.accesses) for race in races) if places else 0
-        if many > 0:
+        lost = sum(not all(places.site(access.place) for access in race.accesses) for race in races) if places else 0
+        if lost > 0:
             self.notes.append(
-                f"{text.many(many, 'race')} {'has' if many == 1 else 'have'} no lines: there was no room for "
+                f"{many(lost, 'race')} {'has' if lost == 1 else 'have'} no lines: there was no room for "
                 "all places of the first run"
             )
 
@@ -276,17 +277,17 @@ class LaterRuns:
         if self.astray:
             self.notes.append(
                 f"the second run took another path: {self.astray}; lines without stacks: "
-                f"{self.without_stacks} of {text.many(self.races, 'race')}"
+                f"{self.without_stacks} of {many(self.races, 'race')}"
             )
         if again + beside > 0:
             self.notes.append(
-                f"one more run looked from its start: {text.many(again, 'race')} of the first run "
-                f"{'has' if again == 1 else 'have'} its lines, and {text.many(beside, 'more race')} "
+                f"one more run looked from its start: {many(again, 'race')} of the first run "
+                f"{'has' if again == 1 else 'have'} its lines, and {many(beside, 'more race')} "
                 f"{'is' if beside == 1 else 'are'} its own"
             )
         if lost > 0:
             self.notes.append(
-                f"{text.many(lost, 'race')} of the first run came in no later one, and "
+                f"{many(lost, 'race')} of the first run came in no later one, and "
                 f"{'has' if lost == 1 else 'have'} no lines: this program can't be repeated. Remove what a "
                 "run leaves, such as files, and fix what comes of time or of random numbers; or use "
                 "--one-run, by which each race has its lines"

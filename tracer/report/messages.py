@@ -21,21 +21,16 @@ of the source that has this code.
     seeming               some of the races may be none
     note                  what the report doesn't say
 """
-import re
-from collections.abc import Iterable
-from typing import NamedTuple
+from __future__ import annotations
 
-from report import source_lines
-from report.failure import Failure
-
-
-class Record(NamedTuple):
-    name: str
-    words: list[str]
-    text: str
+TYPE_CHECKING = False
+if TYPE_CHECKING:
+    from collections.abc import Iterable
 
 
-CODE = re.compile("<code (0x[0-9a-f]+)>")
+class Record:
+    def __init__(self, name: str, words: list[str], text: str) -> None:
+        self.name, self.words, self.text = name, words, text
 
 
 def record_of(line: str) -> Record:
@@ -50,14 +45,8 @@ def texts_of(records: Iterable[Record], name: str) -> list[str]:
 
 def with_lines(program: str, texts: list[str]) -> list[str]:
     """The texts with lines of the source in place of codes, each once."""
-    codes = {int(code, 16) + 1 for text in texts for code in CODE.findall(text)}
-    try:
-        positions = source_lines.positions_of(program, codes) if codes else {}
-    except Failure:
-        positions = {}
+    if any("<code " in text for text in texts):
+        from report import source_lines
 
-    def line_of(match: re.Match[str]) -> str:
-        position = positions.get(int(match[1], 16) + 1, [source_lines.UNKNOWN])[-1]
-        return f"{position.file}:{position.line}" if position.line > 0 else f"address {match[1]}"
-
-    return list(dict.fromkeys(CODE.sub(line_of, text) for text in texts))
+        texts = source_lines.with_lines(program, texts)
+    return list(dict.fromkeys(texts))

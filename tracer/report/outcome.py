@@ -1,21 +1,27 @@
 """What came of a run of a traced program."""
-import signal
-from typing import BinaryIO, NamedTuple
+from __future__ import annotations
 
-from report import source_lines
 from report.messages import Record, record_of, texts_of, with_lines
+from report.system import signal
+
+TYPE_CHECKING = False
+if TYPE_CHECKING:
+    from typing import BinaryIO
 
 
-class Unseen(NamedTuple):
+class Unseen:
     """A function that nothing is known of, the library or the file that has it, and how often it was called."""
 
-    function: str
-    library: str
-    calls: int
+    def __init__(self, function: str, library: str, calls: int) -> None:
+        self.function, self.library, self.calls = function, library, calls
 
 
 def unseen_of(records: list[Record]) -> list[Unseen]:
     named = [record for record in records if record.name == "unseen"]
+    if not named:
+        return []
+    from report import source_lines
+
     shown = source_lines.demangled(record.text for record in named)
     return [Unseen(shown[record.text], " ".join(record.words[1:]), int(record.words[0])) for record in named]
 

@@ -2,12 +2,11 @@
 from __future__ import annotations
 
 import os
-import select
 import stat
-import threading
 
 TYPE_CHECKING = False
 if TYPE_CHECKING:
+    import threading
     from typing import BinaryIO
 
 
@@ -50,6 +49,8 @@ class Input:
 
     def keep(self, kept: BinaryIO) -> bool:
         """Whether all of it came."""
+        import select
+
         came = 0
         while came < self.MOST and select.select([0], [], [], self.PATIENCE)[0]:
             piece = os.read(0, self.PIECE)
@@ -64,6 +65,8 @@ class Input:
             os.lseek(self.file, self.start, os.SEEK_SET)
         if self.kept is None or self.ended:
             return os.dup(self.file)
+        import threading
+
         self.ended = True
         given, to = os.pipe()
         stopped, self.stop = os.pipe()
@@ -72,6 +75,8 @@ class Input:
         return given
 
     def pump(self, kept: BinaryIO, to: int, stopped: int) -> None:
+        import select
+
         try:
             while piece := os.read(self.file, self.PIECE):
                 write_all(to, piece)

@@ -1,34 +1,29 @@
 """Runs of a traced program: with its trace into `spbags check`, and with a look at the races' places."""
 from __future__ import annotations
 
-import ctypes
-import importlib
 import os
-import signal
-import struct
-import threading
 import time
-from collections.abc import Callable, Iterable
+from _thread import TIMEOUT_MAX
 
-import installation
 from report.failure import Failure
 from report.process import Process
 from report.program_input import Input
 from report.progress import Progress
 from report.record_pipe import RecordPipe
+from report.system import fix_addresses, signal
 
 TYPE_CHECKING = False
 if TYPE_CHECKING:
+    from collections.abc import Callable, Iterable
     from typing import BinaryIO
 
     from report.checker_answers import Race
     from report.outcome import Run
 
 # What each report needs is imported while the program runs, so that nobody waits for it.
-MEANWHILE = ("report.outcome", "report.text")
+MEANWHILE = ("report.outcome", "report.result", "report.ending")
 # What the hooks of a program have in them that says such records, and those with the detector inside.
 MARK, INSIDE = b"SPBAGS_RECORDS", b"SPBAGS_INSIDE"
-PERSONALITY, ADDR_NO_RANDOMIZE = ctypes.CDLL(None).personality, 0x0040000
 MOST_DEPTH = "1000000"
 # What the environment of each run has.
 OWN = "PLACES TRACE REPORT EXITCODE LOOK DIVIDE LAST WAITED OTHERS PROGRESS HELP ROOM"
@@ -37,6 +32,8 @@ OURS = [f"SPBAGS_{name}" for name in OWN.split()]
 
 def checker() -> str:
     """The program `spbags`, which SPBAGS names, or else the one that is built or installed here."""
+    import installation
+
     named = os.environ.get("SPBAGS") or installation.PROGRAM
     if not os.access(named, os.X_OK) or not os.path.isfile(named):
         raise Failure(
@@ -79,7 +76,7 @@ def wait_for(
 ) -> int | None:
     """Waits until the process has ended, which gives None; until such a signal has come, which gives its number; or, as
     0, until the time is over."""
-    end = time.monotonic() + (threading.TIMEOUT_MAX if seconds is None else seconds)
+    end = time.monotonic() + (TIMEOUT_MAX if seconds is None else seconds)
     while process.poll() is None:
         left = end - time.monotonic()
         if left <= 0:
@@ -90,12 +87,6 @@ def wait_for(
     return None
 
 
-def fix_addresses() -> None:
-    """The programs that are started from now on have their memory at the same addresses, as far as the system lets
-    us."""
-    PERSONALITY(ctypes.c_ulong(PERSONALITY(ctypes.c_ulong(0xFFFFFFFF)) | ADDR_NO_RANDOMIZE))
-
-
 def memory_file() -> BinaryIO:
     """A file that is on no disk."""
     return open(os.memfd_create("spbags"), "w+b")
@@ -103,6 +94,8 @@ def memory_file() -> BinaryIO:
 
 def file_of(numbers: list[int]) -> BinaryIO:
     """A file with these, of 8 bytes each."""
+    import struct
+
     file = memory_file()
     file.write(struct.pack(f"<{len(numbers)}Q", *numbers))
     file.flush()
@@ -179,7 +172,7 @@ class Runner:
             os.close(nowhere)
         pipe.start()
         for module in MEANWHILE:
-            importlib.import_module(module)
+            __import__(module)
         return program
 
     def environment(self, pipe: RecordPipe, files: dict[str, int], settings: dict[str, str]) -> dict[str, str]:

@@ -6,6 +6,7 @@ from typing import Any
 from urllib.parse import quote
 
 from report import source_lines, text
+from report.ending import left_out_lines
 from report.pairs import Pair, Side
 from report.result import Report
 from report.root import Root
@@ -77,7 +78,7 @@ def result_of(pair: Pair, unit: int, seen: collections.Counter[str]) -> Object:
 
 def notifications_of(report: Report) -> list[Object]:
     """What wasn't seen or modelled, and what else the report says of the run."""
-    told = [*(("warning", line) for line in text.left_out_lines(report)), *(("note", line) for line in report.notes)]
+    told = [*(("warning", line) for line in left_out_lines(report)), *(("note", line) for line in report.notes)]
     return [{"level": level, "message": {"text": line}} for level, line in told]
 
 

@@ -35,6 +35,8 @@ CALLER = "__spbags_outlined"
 COMMENT = re.compile(r"//[^\n]*|/\*(?:.|\n)*?\*/|\"(?:\\.|[^\"\\\n])*\"|'(?:\\.|[^'\\\n])*'")
 # The functions that a spawn of C++ is made of, by their first parameter; and those of the headers.
 SPAWNED, ON_THE_WAY = "::{lambda(__spbags_spawned", "__spbags_"
+# What stands for a line in what a program says of its run.
+CODE = re.compile("<code (0x[0-9a-f]+)>")
 
 
 def asked(*command: str, given: str = "") -> str:
@@ -98,6 +100,21 @@ def positions_of(program: str, codes: Iterable[int]) -> dict[int, list[Position]
     if len(positions) != len(ordered):
         raise Failure("addr2line gave no answer")
     return positions
+
+
+def with_lines(program: str, texts: list[str]) -> list[str]:
+    """The texts with lines in place of codes."""
+    codes = {int(code, 16) + 1 for text in texts for code in CODE.findall(text)}
+    try:
+        positions = positions_of(program, codes)
+    except Failure:
+        positions = {}
+
+    def line_of(match: re.Match[str]) -> str:
+        position = positions.get(int(match[1], 16) + 1, [UNKNOWN])[-1]
+        return f"{position.file}:{position.line}" if position.line > 0 else f"address {match[1]}"
+
+    return [CODE.sub(line_of, text) for text in texts]
 
 
 def position_of(function: str, where: str) -> Position:

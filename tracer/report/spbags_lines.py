@@ -20,8 +20,9 @@ import sys
 from collections.abc import Iterable, Iterator
 
 from installation import VERSION
-from report import checker_answers, sites, source_lines, text
+from report import checker_answers, sites, source_lines
 from report.checker_answers import Race
+from report.ending import INDENT, many
 from report.failure import Failure, reason_of
 from report.function_names import function_of
 from report.messages import with_lines
@@ -79,7 +80,7 @@ def side_lines(sides: list[tuple[Position, str]]) -> Iterator[str]:
     width = max(len(source_line(position)) for position, _ in sides)
     for position, what in sides:
         yield (
-            f"{text.INDENT}{source_line(position):{width}}  {what:5}  in {function_of(position)}:  "
+            f"{INDENT}{source_line(position):{width}}  {what:5}  in {function_of(position)}:  "
             f"{source_lines.text_of(position)}"
         ).rstrip()
 
@@ -89,7 +90,7 @@ def pair_lines(pairs: list[Pair]) -> Iterator[str]:
     yield f"races {sum(pair.races for pair in pairs)}, pairs of lines {len(pairs)}"
     for pair in pairs:
         named = f" of location {pair.location}" if pair.races == 1 and pair.location >= 0 else ""
-        yield f"\n{text.many(pair.races, 'race')}{named}"
+        yield f"\n{many(pair.races, 'race')}{named}"
         yield from side_lines(
             [(side.lead(), " or ".join(sorted(kinds))) for side, kinds in zip(pair.sides, pair.kinds)]
         )

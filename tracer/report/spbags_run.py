@@ -13,15 +13,12 @@ The exit status:
 The page tracer/RUN.md explains the report."""
 from __future__ import annotations
 
-import argparse
 import os
-import re
 import sys
-from collections.abc import Callable
 
-from installation import VERSION
 from report import runs
 from report.failure import Failure, reason_of
+from report.options import Options, parsed
 from report.program_input import disk_file
 from report.progress import Progress
 from report.root import Root
@@ -37,85 +34,10 @@ if TYPE_CHECKING:
     from report.result import Report
 
 
-def natural(word: str) -> int:
-    if not word.isdecimal():
-        raise argparse.ArgumentTypeError("expected a number, 0 or more")
-    return int(word)
-
-
-def status(word: str) -> int:
-    if not word.isdecimal() or int(word) > 255:
-        raise argparse.ArgumentTypeError("expected a status from 0 to 255")
-    return int(word)
-
-
-def seconds(word: str) -> float:
-    try:
-        number = float(word)
-    except ValueError:
-        number = 0
-    if not 0 < number < 1e9:
-        raise argparse.ArgumentTypeError("expected a number of seconds")
-    return number
-
-
-def names(word: str) -> list[str]:
-    return [name for name in word.split(",") if name]
-
-
-def options() -> argparse.ArgumentParser:
-    # Without a width argparse asks the terminal for it at each option, by a module that takes long.
-    width = None if {"-h", "--help"} & set(sys.argv) else 80
-    parser = argparse.ArgumentParser(
-        prog="spbags-run",
-        description=__doc__,
-        formatter_class=lambda prog: argparse.RawDescriptionHelpFormatter(prog, width=width),
-        usage="spbags-run [options] -- PROGRAM [WORD ..]",
-    )
-
-    def flag(name: str, told: str, to: argparse._ActionsContainer = parser) -> None:
-        to.add_argument(name, action="store_true", help=told)
-
-    def value(name: str, metavar: str, told: str, default: object = None, of: Callable[[str], object] = str) -> None:
-        parser.add_argument(name, metavar=metavar, default=default, type=of, help=told)
-
-    shards = "threads of spbags that share the locations, 1 to 64 (default 1, since the program runs too)"
-    value("--shards", "N", shards, "1")
-    value("--most", "N", "show at most N pairs of lines (default 20)", 20, natural)
-    flag("--repeats", "write repeats into the trace too")
-    value("--keep", "TRACE", "keep the trace in this file, and its places in TRACE.places")
-    form = parser.add_mutually_exclusive_group()
-    flag("--json", "print one JSON object; what the program prints then goes to standard error", form)
-    flag("--sarif", "print SARIF 2.1.0, for editors and code review; the program's output goes as with --json", form)
-    value("--html", "FILE", "write the report into this file too, as a page for browsers")
-    colours = "colours in the text: always, never, or auto, on a terminal unless NO_COLOR is set (default auto)"
-    choices = ("auto", "always", "never")
-    parser.add_argument("--color", metavar="WHEN", choices=choices, default="auto", help=colours)
-    value("--output", "FILE", "write the report into this file")
-    value("--source-root", "DIR", "name the files from this folder (default: the current one)", os.curdir)
-    value("--suppress", "FILE", "leave out the races that this file names")
-    flag("--gen-suppressions", "print lines for --suppress that leave out each pair, in place of the report")
-    flag("--data-races", "leave out pairs that aren't data races")
-    flag("--streams", "report children that use one stream or descriptor in an order that isn't determined")
-    parser.set_defaults(streams=os.environ.get("SPBAGS_STREAMS") == "1")
-    value("--exitcode", "N", "the status if there is a race (default 1)", 1, status)
-    value(
-        "--no-answer-status", "N", "the status if there is no answer (default 2; `git bisect run` needs 125)", 2, status
-    )
-    flag("--one-run", "run the program once, and look from its start: lines without stacks")
-    value("--timeout", "S", "end the program after S seconds, and report what came before", None, seconds)
-    flag("--incomplete-ok", "status 0 in place of 3, which accepts what wasn't seen or modelled")
-    unseen = "accept calls of these unknown functions: names separated by commas; * matches anything"
-    value("--unseen-ok", "LIST", unseen, [], names)
-    parser.add_argument("--version", action="version", version=f"spbags-run {VERSION}")
-    parser.add_argument("command", nargs="+", metavar="PROGRAM")
-    return parser
-
-
 class Session:
     """The runs of one command."""
 
-    def __init__(self, chosen: argparse.Namespace) -> None:
+    def __init__(self, chosen: Options) -> None:
         self.chosen, self.progress = chosen, Progress()
         self.unit = os.environ.get("SPBAGS_UNIT") or "4"
         # A trace that is kept has streams only if they are asked for, since `spbags` doesn't know them from the rest.
@@ -201,6 +123,8 @@ class Session:
 
     def is_silenced(self, function: str) -> bool:
         """Whether --unseen-ok names it; the words of a C++ function needn't be there."""
+        import re
+
         from report.source_lines import pattern
 
         shapes, patterns = (function, function.partition("(")[0]), map(pattern, self.chosen.unseen_ok)
@@ -219,7 +143,7 @@ class Session:
         return notes
 
     def report(self, run: Run, notes: list[str], incomplete: list[str]) -> Report:
-        from report import result, text
+        from report import ending, result
 
         chosen, later = self.chosen, self.later
         found, races, without_stacks = (later.pairs, later.races, later.without_stacks) if later else ([], 0, 0)
@@ -235,7 +159,7 @@ class Session:
         own = sum(pair.guard == result.THREAD_LOCAL for pair in guarded)
         if own > 0:
             notes.append(
-                f"{text.many(own, 'pair')} of thread-local variables left out: a data race if one child "
+                f"{ending.many(own, 'pair')} of thread-local variables left out: a data race if one child "
                 "reaches another thread's by a pointer"
             )
         ran = run.words("ran")
@@ -261,48 +185,54 @@ class Session:
         )
 
 
-def has_colours(chosen: argparse.Namespace, output: TextIO) -> bool:
+def has_colours(chosen: Options, output: TextIO) -> bool:
     is_asked = chosen.color == "auto" and output.isatty() and not os.environ.get("NO_COLOR")
     return is_asked or chosen.color == "always"
 
 
-def text_of(found: Report, chosen: argparse.Namespace, output: TextIO) -> str:
-    from report import result, text
-
+def text_of(found: Report, chosen: Options, output: TextIO) -> str:
     if chosen.json or chosen.sarif:
         import json
 
         if chosen.sarif:
+            from installation import VERSION
             from report import sarif
 
             return json.dumps(sarif.as_object(found, VERSION), indent=1)
-        return json.dumps(result.as_object(found), indent=1)
-    if chosen.gen_suppressions:
-        return "\n".join(text.suppressions(found.pairs))
-    return "\n".join(text.Text(found, has_colours(chosen, output), width()).lines())
+        from report import objects
+
+        return json.dumps(objects.as_object(found), indent=1)
+    from report import ending
+
+    colours = has_colours(chosen, output)
+    if not found.pairs and not chosen.gen_suppressions:
+        return "\n".join(ending.Ending(found, colours, width()).lines())
+    from report import text
+
+    shown = text.suppressions(found.pairs) if chosen.gen_suppressions else text.Text(found, colours, width()).lines()
+    return "\n".join(shown)
 
 
 def width() -> int:
-    if not os.environ.get("COLUMNS") and not os.isatty(1):
-        return 120
-    import shutil
+    named = os.environ.get("COLUMNS", "")
+    if named.isdecimal() and int(named) > 0:
+        return int(named)
+    return (os.get_terminal_size(1).columns if os.isatty(1) else 0) or 120
 
-    return shutil.get_terminal_size((120, 24)).columns
 
-
-def show(found: Report, chosen: argparse.Namespace) -> None:
+def show(found: Report, chosen: Options) -> None:
     name = chosen.output or sys.stdout.fileno()
     with open(name, "w", encoding="utf-8", errors="surrogateescape", closefd=bool(chosen.output)) as output:
         print(text_of(found, chosen, output), file=output)
 
 
-def status_of(found: Report, chosen: argparse.Namespace) -> int:
+def status_of(found: Report, chosen: Options) -> int:
     if found.pairs or found.not_shown.pairs:
         return int(chosen.exitcode)
     return 3 if (found.incomplete or found.unseen) and not chosen.incomplete_ok else 0
 
 
-def page_of(found: Report | None, chosen: argparse.Namespace) -> str:
+def page_of(found: Report | None, chosen: Options) -> str:
     """The report as HTML; without a report, only whether there can be any."""
     # Nothing else needs the folders of the system's packages.
     import site
@@ -316,7 +246,7 @@ def page_of(found: Report | None, chosen: argparse.Namespace) -> str:
     return html_page.page_of(found, status_of(found, chosen)) if found else ""
 
 
-def answer(chosen: argparse.Namespace) -> int:
+def answer(chosen: Options) -> int:
     # What can't be written, or made, is told before the program runs.
     for name in (chosen.output, chosen.html):
         if name:
@@ -336,7 +266,7 @@ def answer(chosen: argparse.Namespace) -> int:
 
 
 def main() -> int:
-    chosen = options().parse_args()
+    chosen = parsed(sys.argv[1:], __doc__)
     Root.folder = chosen.source_root
     try:
         return answer(chosen)

@@ -43,7 +43,8 @@ class Suppressions:
                 self.take(line.strip(), f"{name}:{number}")
 
     def told(self) -> list[Used]:
-        used = [Used(line, *count(pairs)) for line, pairs in self.matched.items()]
+        counts = ((line, count(pairs)) for line, pairs in self.matched.items())
+        used = [Used(line, counted.pairs, counted.races) for line, counted in counts]
         return [one for one in used if one.pairs > 0 or one.line not in self.own]
 
     def take(self, line: str, where: str) -> None:

@@ -2,25 +2,21 @@
 from __future__ import annotations
 
 import re
-import textwrap
 from collections.abc import Iterable, Iterator
 from itertools import groupby
 from typing import TYPE_CHECKING
 
 from report import advice, source_lines
+from report.ending import INDENT, LEAST_WIDTH, Ending, many, wrapped
 from report.function_names import function_of
-from report.result import NO_OPENMP, THREAD_LOCAL, UNKNOWN_GUARD, Report
+from report.result import NO_OPENMP, THREAD_LOCAL, UNKNOWN_GUARD
 from report.stack_rows import BOTH, Frame, Row, access_rows, allocation_rows, common_tail, place, rows, without_regions
 
 if TYPE_CHECKING:
-    from report.outcome import Unseen
     from report.pairs import MissingSync, Pair, Siblings, Variable
-    from report.suppressions import Used
 
-INDENT = " " * 4
 # What is told of a reducer.
 OF_REDUCER = {"read": "update", "write": "value"}
-LEAST_WIDTH = 60
 # What the tracer's reducers and classes of libstdc++ have inside.
 INNER = re.compile(r"\.(?:__spbags|_M)_")
 # So many elements of a variable are named, and else the first alone.
@@ -28,14 +24,6 @@ MOST_NAMED = 4
 BASE, ELEMENT = re.compile(r"[(*]*[\w:]+"), re.compile(r"(?:\[[0-9]+\])+")
 GAP = "  "
 CUT = ".."
-
-
-def many(number: int, name: str) -> str:
-    return f"{number} {name}{'' if number == 1 else 's'}"
-
-
-def spelled(number: int, name: str) -> str:
-    return f"{number:,} {name}{'' if number == 1 else 'es' if name.endswith('s') else 's'}"
 
 
 def in_middle(text: str, width: int) -> str:
@@ -52,10 +40,6 @@ def at_end(text: str, width: int) -> str:
     return text if len(text) <= width else text[: max(width - len(CUT), 0)] + CUT
 
 
-def wrapped(text: str, width: int, first: str = "", indent: str = INDENT) -> list[str]:
-    return textwrap.wrap(text, width, initial_indent=first, subsequent_indent=indent, break_on_hyphens=False)
-
-
 def stacks_of(pair: Pair) -> list[list[Frame]]:
     is_of_openmp = pair.suggested and not advice.is_of_cilk(pair)
     stacks = [without_regions(side.stack) if is_of_openmp else side.stack for side in pair.sides]
@@ -66,17 +50,8 @@ def by_variable(pairs: Iterable[Pair]) -> list[list[Pair]]:
     return [list(alike) for _, alike in groupby(pairs, key=lambda pair: pair.identity())]
 
 
-class Text:
-    """With colours where it goes to a terminal."""
-
-    def __init__(self, report: Report, colours: bool, width: int) -> None:
-        self.report, self.colours, self.width = report, colours, max(width, LEAST_WIDTH)
-
-    def coloured(self, text: str, colour: str) -> str:
-        return f"\033[{colour}m{text}\033[0m" if self.colours else text
-
-    def wrapped(self, text: str, colour: str) -> list[str]:
-        return [self.coloured(line, colour) for line in wrapped(text, self.width)]
+class Text(Ending):
+    """With each pair before that."""
 
     def lines(self) -> Iterator[str]:
         groups = by_variable(self.report.pairs)
@@ -92,16 +67,7 @@ class Text:
             for pairs in groups:
                 yield INDENT + at_end(heading(pairs), self.width - len(INDENT))
             yield ""
-        yield from self.ending()
-
-    def ending(self) -> Iterator[str]:
-        for note in self.report.notes:
-            yield from self.wrapped(note, "1")
-        for line in left_out_lines(self.report):
-            yield from self.wrapped(line, "1;33")
-        for used in self.report.suppressions:
-            yield from self.wrapped(suppression_line(used), "1")
-        yield from textwrap.wrap(last_line(self.report), self.width, subsequent_indent=INDENT)
+        yield from super().lines()
 
     # ---- A pair ----
 
@@ -148,38 +114,6 @@ class Text:
 def heading(pairs: list[Pair]) -> str:
     races = many(sum(pair.races for pair in pairs), "location")
     return f"{whole_name(pairs[0].variable)}: {races} in {many(len(pairs), 'pair')} of lines"
-
-
-def left_out_lines(report: Report) -> list[str]:
-    return [*report.incomplete, *map(unseen_line, report.unseen)]
-
-
-def last_line(report: Report) -> str:
-    shown = len(report.pairs) + report.not_shown.pairs
-    parts = [f"races {report.races - report.suppressed.races - report.guarded.races}, pairs of lines {shown}"]
-    if report.spawns is not None and report.accesses is not None:
-        parts[0] += f", {spelled(report.spawns, 'spawn')}, {spelled(report.accesses, 'access')}"
-    counts = {"not shown": report.not_shown, "suppressed": report.suppressed, "no data race": report.guarded}
-    for what, left in counts.items():
-        if left.pairs > 0:
-            parts.append(f"{what}: {many(left.races, 'race')} of {many(left.pairs, 'pair')}")
-    guarded_pairs = sum(pair.is_guarded() for pair in report.pairs)
-    if guarded_pairs > 0:
-        parts.append(f"no data race, which --data-races leaves out: {many(guarded_pairs, 'pair')}")
-    lines = len(left_out_lines(report))
-    if lines > 0:
-        parts.append(f"not all was seen or modelled: {many(lines, 'line')} above")
-    return "; ".join(parts)
-
-
-def unseen_line(unseen: Unseen) -> str:
-    return f"not seen: {unseen.function} ({unseen.library}), called {many(unseen.calls, 'time')}"
-
-
-def suppression_line(used: Used) -> str:
-    if used.pairs == 0:
-        return f"{used.line} suppresses nothing"
-    return f"{used.line} suppresses {many(used.races, 'race')} of {many(used.pairs, 'pair')}"
 
 
 # ---- What is said of a pair ----

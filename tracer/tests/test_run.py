@@ -302,10 +302,11 @@ class ReportTest(RunTest):
     def test_no_race(self):
         status, report = self.found()
         self.assertEqual((3, 0, []), (status, report["races"], report["pairs"]))
-        modules = self.run_command(sys.executable, "-X", "importtime", SPBAGS_RUN, "--", "./run").errors
-        for name, is_read in (("report.runs", True), ("report.pairs", False), ("report.variables", False), ("tokens", False),
-                              ("subprocess", False), ("dataclasses", False)):
-            self.assertEqual(is_read, re.search(rf"(?m)\| +{re.escape(name)}$", modules) is not None, name)
+        said = self.run_command(sys.executable, "-ISX", "importtime", SPBAGS_RUN, "--", "./run").errors
+        modules = set(re.findall(r"(?m)\| +([\w.]+)$", said))
+        self.assertIn("report.runs", modules)
+        self.assertEqual(set(), modules & {"report.text", "report.pairs", "argparse", "ctypes", "enum", "re",
+                                           "subprocess", "threading", "typing"})
 
 
 def text_object(required=("text",)):
@@ -668,6 +669,38 @@ class OutputTest(RunTest):
                 self.assertIn(example, self.succeeds("tracer/" + command, "--help").out)
         with self.subTest("too few words"):
             self.assertEqual(2, self.run_command(SPBAGS_LINES, "./run").status)
+
+    def test_command_line(self):
+        """A name may be shortened, and what it takes may follow `=`; behind `--` all is the program's."""
+        self.write("words.c", """#include <stdio.h>
+int main(int count, char **words) {
+    for (int at = 1; at < count; at++)
+        printf("%s%s", at > 1 ? " " : "", words[at]);
+    puts("");
+}
+""")
+        self.succeeds(SPBAGS_CC, *DETECTOR, "-w", "-o", "words", "words.c")
+        for words, wanted in ((("--one", "./words", "a"), "a"), (("./words", "-5", "--most", "0"), "-5"),
+                              (("--most=3", "--", "./words", "--json", "--"), "--json --"),
+                              (("--no-answer=4", "./words"), "")):
+            with self.subTest(words):
+                self.assertEqual(wanted, self.run_command(SPBAGS_RUN, *words).out.split("\n")[0])
+        for words, why in ((("--most", "few"), "argument --most: expected a number, 0 or more"),
+                           (("--exitcode=256",), "argument --exitcode: expected a status from 0 to 255"),
+                           (("--timeout", "0"), "argument --timeout: expected a number of seconds"),
+                           (("--color", "red"), "argument --color: expected auto, always or never"),
+                           (("--keep", "--json"), "argument --keep: expected one argument"),
+                           (("--json=yes",), "argument --json: ignored explicit argument 'yes'"),
+                           (("--so", "--sh"), "argument --source-root: expected one argument"),
+                           (("--s",), "ambiguous option: --s could match --shards, --sarif, --source-root, --suppress, "
+                                      "--streams"),
+                           (("--jason",), "unrecognized arguments: --jason"),
+                           (("--json", "--sarif"), "argument --sarif: not allowed with argument --json")):
+            with self.subTest(words):
+                said = self.run_command(SPBAGS_RUN, *words, "--", "./words")
+                self.assertEqual((2, "", f"spbags-run: error: {why}"),
+                                 (said.status, said.out, said.errors.split("\n")[-2]))
+        self.assertEqual(2, self.run_command(SPBAGS_RUN, "--json", "--").status)
 
     def test_help(self):
         """RUN.md has its options and statuses, in its words."""
