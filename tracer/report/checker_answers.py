@@ -4,8 +4,9 @@ import mmap
 import os
 import re
 import struct
-from collections.abc import Iterable
-from itertools import accumulate, cycle, islice
+from array import array
+from collections.abc import Iterable, Sequence
+from itertools import accumulate
 from typing import BinaryIO, NamedTuple
 
 from report.failure import Failure
@@ -96,15 +97,65 @@ def guard_of(text: str) -> Guard:
     return int(number, 16), name
 
 
-def unpacked(packed: Iterable[int]) -> list[int]:
-    """The numbers of a block, by hooks/records/packing.h."""
-    numbers: list[int] = []
-    rest = iter(packed)
-    for new in rest:
-        numbers += islice(rest, new)
-        back, count = next(rest, 1), next(rest, 0)
-        numbers += islice(cycle(numbers[-back:]), count)
-    return numbers
+class Block:
+    """The numbers of a packed block, by hooks/records/packing.h and places.h; for how many records each stands; and what
+    it is. What stands there already is copied as a whole, since it is many times as much as what is new."""
+
+    # A site or a mark; how many more records there are; the last of what follows the mark of two sites, and before that
+    # how much of it is left.
+    OWN, MORE, LAST, FIRST = 0, 1, 2, 8
+    # What follows a mark.
+    MARKS = {0xFFFD: FIRST, 0xFFFE: MORE}
+    STEP = 256
+
+    def __init__(self, packed: Sequence[int]) -> None:
+        self.numbers, self.counts, self.kinds = array("H"), array("H"), array("B")
+        at, kind = 0, self.OWN
+        while at < len(packed):
+            end = at + 1 + packed[at]
+            for number in packed[at + 1 : end]:
+                kind = self.take(number, kind)
+            if end < len(packed):
+                kind = self.copy(packed[end], packed[end + 1], kind)
+            at = end + 2
+        steps = range(0, len(self.counts), self.STEP)
+        self.sums = list(accumulate(sum(self.counts[start : start + self.STEP]) for start in steps))
+
+    def take(self, number: int, kind: int) -> int:
+        """A number that is this; what the next one is."""
+        self.numbers.append(number)
+        self.kinds.append(kind)
+        if kind == self.OWN:
+            self.counts.append(number not in self.MARKS)
+            return self.MARKS.get(number, self.OWN)
+        self.counts.append(number if kind == self.MORE else self.numbers[-5] if kind == self.LAST else 0)
+        return kind - 1 if kind > self.LAST else self.OWN
+
+    def copy(self, back: int, count: int, kind: int) -> int:
+        """So many numbers that stand so far back, of which the first is this; what the next one is."""
+        start = len(self.numbers) - back
+        while count > 0 and (kind > self.MORE or self.kinds[start] != kind):
+            kind = self.take(self.numbers[start], kind)
+            start, count = start + 1, count - 1
+        for every in (self.numbers, self.counts, self.kinds):
+            again = every[start : start + count]
+            every += again if count <= back else (again * (count // back + 1))[:count]
+        return self.kinds[start + count] if count > 0 else kind
+
+    def site(self, record: int) -> int:
+        """The number of a record's site."""
+        step = bisect.bisect_left(self.sums, record)
+        record -= self.sums[step - 1] if step > 0 else 0
+        ends = list(accumulate(self.counts[step * self.STEP : (step + 1) * self.STEP]))
+        found = bisect.bisect_left(ends, record)
+        at = step * self.STEP + found
+        if self.kinds[at] == self.LAST:
+            *two, count, first, second, third, fourth = self.numbers[at - 6 : at + 1]
+            bits = first | second << 16 | third << 32 | fourth << 48
+            return two[bits >> record - 1 - (ends[found] - count) & 1]
+        while self.kinds[at] == self.MORE:
+            at -= 2
+        return self.numbers[at]
 
 
 class Places:
@@ -113,7 +164,7 @@ class Places:
     and how many of all these there are."""
 
     END = struct.Struct("<QQQQQQ8s")
-    MARK, TWO, REPEAT = b"spbplace", 0xFFFD, 0xFFFE
+    MARK = b"spbplace"
 
     def __init__(self, file: BinaryIO, name: str) -> None:
         self.name = name
@@ -136,8 +187,7 @@ class Places:
         self.notes = self.text(*starts[3:5])
         # The newest part that was read, and which that is; and the numbers of records that were looked up.
         self.part: int | None = None
-        self.ends: list[int] = []
-        self.numbers: list[int] = []
+        self.block = Block(())
         self.found: dict[int, int] = {}
 
     def text(self, start: int, end: int) -> list[str]:
@@ -150,31 +200,12 @@ class Places:
                 raise Failure(f"{self.name} has no place {place}: does the report belong to another trace?")
             self.found[place] = self.number(place)
 
-    def read_part(self, part: int) -> None:
-        """Of the records of a block: where those of each site end, one behind the other."""
-        (at, first), (_, end) = self.marks[part : part + 2]
-        self.part, self.ends, self.numbers = part, [], []
-        numbers = iter(unpacked(memoryview(self.bytes)[2 * first : 2 * end].cast("H")))
-        for number in numbers:
-            if number == self.REPEAT:
-                at += next(numbers)
-                self.ends[-1] = at
-            elif number == self.TWO:
-                *two, count, first, second, third, fourth = islice(numbers, 7)
-                bits = first | second << 16 | third << 32 | fourth << 48
-                self.numbers += [two[bits >> record & 1] for record in range(count)]
-                self.ends += range(at + 1, at + count + 1)
-                at += count
-            else:
-                at += 1
-                self.ends.append(at)
-                self.numbers.append(number)
-
     def number(self, place: int) -> int:
         part = bisect.bisect_left(self.marks, (place,)) - 1
+        (before, first), (_, end) = self.marks[part : part + 2]
         if part != self.part:
-            self.read_part(part)
-        return self.numbers[bisect.bisect_left(self.ends, place)]
+            self.part, self.block = part, Block(memoryview(self.bytes)[2 * first : 2 * end].cast("H"))
+        return self.block.site(place - before)
 
     def site(self, place: int) -> Site | None:
         """None where it isn't known."""

@@ -358,8 +358,23 @@ class AnswersTest(TracerTest):
         )
 
     def test_packed(self) -> None:
-        """So many new numbers, and then so many that repeat the last ones."""
-        self.assertEqual([7, 8, 9, 8, 9, 8, 6], checker_answers.unpacked([3, 7, 8, 9, 2, 3, 1, 6]))
+        """So many new numbers, and then so many that repeat the last ones; and what these say of records."""
+        two, repeat = 0xFFFD, 0xFFFE
+        for packed, sites in (
+            ([3, 7, 8, 9, 2, 3, 1, 6], [7, 8, 9, 8, 9, 8, 6]),
+            ([4, 7, repeat, 2, 8, 4, 6, 1, 5], [7] * 3 + [8] + [7] * 3 + [8] + [7] * 6),
+            # The count is a copy of a site, and what comes behind that is the mark again.
+            ([3, 2, 9, repeat, 3, 3, 1, 4], [2] + [9] * 8),
+            ([5, 7, repeat, 2, repeat, 1], [7] * 4),
+            ([10, 6, two, 10, 11, 5, 0b10110, 0, 0, 0, 0xFFFF], [6, 10, 11, 11, 10, 11, 0xFFFF]),
+            ([9, two, 10, 11, 2, 0b10, 0, 0, 0, 6, 9, 17, 0], [10, 11, 6] * 2 + [10, 11]),
+            # The copy is of the end of what follows another mark.
+            ([13, two, 10, 11, 2, 0b10, 0, 0, 0, two, 10, 11, 3, 0b100, 8, 3, 1, 6], [10, 11, 10, 10, 11, 6]),
+            ([1, 7, 1, 1000, 2, repeat, 60000], [7] * 61001),
+        ):
+            with self.subTest(packed):
+                block = checker_answers.Block(packed)
+                self.assertEqual(sites, [block.site(record) for record in range(1, len(sites) + 1)])
 
 
 if __name__ == "__main__":
