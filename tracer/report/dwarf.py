@@ -5,6 +5,7 @@ import contextlib
 import functools
 import struct
 from collections.abc import Iterator
+from dataclasses import dataclass, field
 from typing import Any
 
 from elf import UNREADABLE, Elf, text_at
@@ -55,26 +56,27 @@ def sleb(data: bytes, at: int) -> tuple[int, int]:
 Abbreviation = tuple[int, bool, list[tuple[int, int, int | None]]]
 
 
+@dataclass(eq=False)
 class Unit:
     """A compile unit: where it, its entries and its abbreviations begin."""
 
-    def __init__(self, start: int, first: int, end: int, version: int, abbreviations: int) -> None:
-        self.start, self.first, self.end, self.version = start, first, end, version
-        self.abbreviations = abbreviations
+    start: int
+    first: int
+    end: int
+    version: int
+    abbreviations: int
 
 
+@dataclass(unsafe_hash=True)
 class Entry:
     """An entry, with the form and the value of each attribute: a number, or a block."""
 
-    def __init__(self, unit: Unit, at: int, tag: int, has_children: bool) -> None:
-        self.unit, self.at, self.tag, self.has_children, self.end = unit, at, tag, has_children, 0
-        self.values: dict[int, tuple[int, Any]] = {}
-
-    def __eq__(self, other: object) -> bool:
-        return isinstance(other, Entry) and self.at == other.at
-
-    def __hash__(self) -> int:
-        return self.at
+    unit: Unit = field(compare=False)
+    at: int
+    tag: int
+    has_children: bool
+    end: int = field(default=0, compare=False)
+    values: dict[int, tuple[int, Any]] = field(default_factory=dict, compare=False)
 
     def value(self, attribute: int) -> Any:
         return self.values.get(attribute, (0, None))[1]

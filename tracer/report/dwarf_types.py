@@ -38,8 +38,7 @@ class Elements(Entry):
 
     def __init__(self, element: Entry, size: int) -> None:
         # No entry of the program begins there.
-        super().__init__(element.unit, -(element.at << 48 | size), ARRAY, False)
-        self.values[BYTE_SIZE] = 0, size
+        super().__init__(element.unit, -(element.at << 48 | size), ARRAY, False, values={BYTE_SIZE: (0, size)})
         self.element = element
 
 

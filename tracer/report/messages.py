@@ -21,16 +21,14 @@ of the source that has this code.
     seeming               some of the races may be none
     note                  what the report doesn't say
 """
-from __future__ import annotations
-
-TYPE_CHECKING = False
-if TYPE_CHECKING:
-    from collections.abc import Iterable
+from collections.abc import Iterable
+from typing import NamedTuple
 
 
-class Record:
-    def __init__(self, name: str, words: list[str], text: str) -> None:
-        self.name, self.words, self.text = name, words, text
+class Record(NamedTuple):
+    name: str
+    words: list[str]
+    text: str
 
 
 def record_of(line: str) -> Record:

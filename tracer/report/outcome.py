@@ -1,19 +1,16 @@
 """What came of a run of a traced program."""
-from __future__ import annotations
+import signal
+from typing import BinaryIO, NamedTuple
 
 from report.messages import Record, record_of, texts_of, with_lines
-from report.system import signal
-
-TYPE_CHECKING = False
-if TYPE_CHECKING:
-    from typing import BinaryIO
 
 
-class Unseen:
+class Unseen(NamedTuple):
     """A function that nothing is known of, the library or the file that has it, and how often it was called."""
 
-    def __init__(self, function: str, library: str, calls: int) -> None:
-        self.function, self.library, self.calls = function, library, calls
+    function: str
+    library: str
+    calls: int
 
 
 def unseen_of(records: list[Record]) -> list[Unseen]:

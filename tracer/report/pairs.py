@@ -2,6 +2,7 @@
 from __future__ import annotations
 
 from collections.abc import Iterable
+from dataclasses import dataclass, field
 from typing import TYPE_CHECKING, Any, NamedTuple
 
 from report import source_lines
@@ -15,11 +16,13 @@ if TYPE_CHECKING:
     from report.heap_types import Made
 
 
+@dataclass
 class Side:
     """One access of a race, and the stack, from the access to main."""
 
-    def __init__(self, kind: str, atomic: bool, stack: list[Frame]) -> None:
-        self.kind, self.atomic, self.stack = kind, atomic, stack
+    kind: str
+    atomic: bool
+    stack: list[Frame]
 
     def lead(self) -> Position:
         return source_lines.leading([frame.position for frame in self.stack])
@@ -29,37 +32,30 @@ class Side:
         return next((frame for frame in reversed(self.stack) if frame.depth == depth), None)
 
 
+@dataclass
 class Variable:
     """What the location is: a `global`, a `local` of a function, something of the `stack`, a block of the `heap`, a
     `stream`, or other `memory`. A variable or a block has a byte by its offset; its part with that is an expression of
     C, and where that is no scalar, the rest is the offset in it and its size."""
 
-    def __init__(
-        self,
-        kind: str,
-        function: str | None = None,
-        name: str | None = None,
-        offset: int = 0,
-        size: int | None = None,
-        address: int | None = None,
-        thread_local: bool | None = None,
-        expression: str | None = None,
-        rest: tuple[int, int] | None = None,
-        element: int | None = None,
-        stack: Iterable[Frame] = (),
-        parts: Iterable[str] = (),
-        parts_count: int = 0,
-        whole: Entry | Made | None = None,
-    ) -> None:
-        self.kind, self.function, self.name, self.offset, self.size = kind, function, name, offset, size
-        self.address, self.thread_local, self.expression, self.rest = address, thread_local, expression, rest
-        # Of a block: the bytes of an access, if it may have such elements; its allocation; and the object that has it.
-        self.element, self.stack = element, list(stack)
-        self.owner: str | None = None
-        # Some of the parts that race, if they are several, and their number.
-        self.parts, self.parts_count = list(parts), parts_count
-        # What the DWARF has of it, or what a block is of.
-        self.whole = whole
+    kind: str
+    function: str | None = None
+    name: str | None = None
+    offset: int = 0
+    size: int | None = None
+    address: int | None = None
+    thread_local: bool | None = None
+    expression: str | None = None
+    rest: tuple[int, int] | None = None
+    # Of a block: the bytes of an access, if it may have such elements; its allocation; and the object that has it.
+    element: int | None = None
+    stack: list[Frame] = field(default_factory=list)
+    owner: str | None = None
+    # Some of the parts that race, if they are several, and their number.
+    parts: list[str] = field(default_factory=list)
+    parts_count: int = 0
+    # What the DWARF has of it, or what a block is of.
+    whole: Entry | Made | None = None
 
     def start(self) -> int:
         return (self.address or 0) - self.offset
@@ -103,40 +99,32 @@ class Siblings(NamedTuple):
     second: list[int] | None = None
 
 
+@dataclass(eq=False)
 class Pair:
     """Two source positions, and the first of their races."""
 
-    def __init__(
-        self,
-        races: int,
-        location: int,
-        sides: list[Side],
-        variable: Variable,
-        missing_sync: MissingSync | None = None,
-        guard: str | None = None,
-        siblings: Siblings | None = None,
-        suggested: tuple[str, ...] = (),
-        neighbours: bool = False,
-        borrowed: bool = False,
-        reducer: bool = False,
-        held_before: str | None = None,
-        runs: Iterable[Run] = (),
-    ) -> None:
-        self.races, self.location, self.sides, self.variable = races, location, sides, variable
-        self.missing_sync, self.guard, self.siblings = missing_sync, guard, siblings
-        # What may be missing between them.
-        self.suggested = suggested
-        # Whether it may be of neighbours: an access doesn't fill its unit, and nothing tells the bytes apart.
-        self.neighbours = neighbours
-        # Whether the stacks may be those of a race of another variable.
-        self.borrowed = borrowed
-        # Whether the variable is a reducer, of which an update is a read, and any use of the value a write.
-        self.reducer = reducer
-        # A lock that the first access held, and then, before the second one, the thread of that: so they are in order.
-        self.held_before = held_before
-        # The bytes of the variable that race.
-        self.runs = list(runs)
-        self.kinds = tuple({side.kind} for side in sides)
+    races: int
+    location: int
+    sides: list[Side]
+    variable: Variable
+    missing_sync: MissingSync | None = None
+    guard: str | None = None
+    siblings: Siblings | None = None
+    # What may be missing between them.
+    suggested: tuple[str, ...] = ()
+    # Whether it may be of neighbours: an access doesn't fill its unit, and nothing tells the bytes apart.
+    neighbours: bool = False
+    # Whether the stacks may be those of a race of another variable.
+    borrowed: bool = False
+    # Whether the variable is a reducer, of which an update is a read, and any use of the value a write.
+    reducer: bool = False
+    # A lock that the first access held, and then, before the second one, the thread of that: so they are in order.
+    held_before: str | None = None
+    # The bytes of the variable that race.
+    runs: list[Run] = field(default_factory=list)
+
+    def __post_init__(self) -> None:
+        self.kinds = tuple({side.kind} for side in self.sides)
 
     def key(self) -> tuple[Any, ...]:
         return (*sorted(side.lead() for side in self.sides), self.guard or "", self.identity())

@@ -2,12 +2,8 @@
 from __future__ import annotations
 
 import os
-
-from report.system import signal
-
-TYPE_CHECKING = False
-if TYPE_CHECKING:
-    from collections.abc import Iterable, Mapping
+import signal
+from collections.abc import Iterable, Mapping
 
 
 class Process:

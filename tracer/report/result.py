@@ -1,7 +1,8 @@
 """The report of `spbags-run`."""
 from __future__ import annotations
 
-TYPE_CHECKING = False
+from typing import TYPE_CHECKING, NamedTuple
+
 if TYPE_CHECKING:
     from report.outcome import Unseen
     from report.pairs import Pair
@@ -18,16 +19,17 @@ UNKNOWN_GUARD = "unknown"
 THREAD_LOCAL = "thread-local"
 
 
-class Count:
-    def __init__(self, pairs: int, races: int) -> None:
-        self.pairs, self.races = pairs, races
+class Count(NamedTuple):
+    pairs: int
+    races: int
 
 
-class Ended:
+class Ended(NamedTuple):
     """How the program ended, and whether the run was whole."""
 
-    def __init__(self, status: int | None, signal: int | None, complete: bool) -> None:
-        self.status, self.signal, self.complete = status, signal, complete
+    status: int | None
+    signal: int | None
+    complete: bool
 
 
 class Report:

@@ -1,5 +1,6 @@
 """What a run noted that looked at the places of a report: a line for each thing, whose first word says what."""
 import re
+from dataclasses import dataclass, field
 from typing import NamedTuple
 
 from report.checker_answers import Guard, Race
@@ -60,26 +61,29 @@ class Block(NamedTuple):
     stack: list[str]
 
 
+@dataclass
 class Noted:
     """A pair of code addresses as the run noted it."""
 
-    def __init__(self, races: int, location: int, address: int, meeting: int, is_narrow: bool) -> None:
-        self.races, self.location, self.address = races, location, address
-        self.meeting, self.is_narrow = meeting, is_narrow
-        self.sides: list[Access] = []
-        # Of each side the child that holds it, of those of the function where both meet; None for a child of Cilk.
-        self.children: list[Child | None] = []
-        # What races, but in blocks of the heap.
-        self.stretches: list[Stretch] = []
-        self.waits: Wait | None = None
-        # What both hold; and what the first access held, and the second one's procedure held before it and after that.
-        self.guard: Guard | None = None
-        self.before: Guard | None = None
-        self.block: Block | None = None
-        # Whether it is of a reducer.
-        self.reducer = False
-        # Of blocks of the heap the bytes that race.
-        self.held: list[Run] = []
+    races: int
+    location: int
+    address: int
+    meeting: int
+    is_narrow: bool
+    sides: list[Access] = field(default_factory=list)
+    # Of each side the child that holds it, of those of the function where both meet; None for a child of Cilk.
+    children: list[Child | None] = field(default_factory=list)
+    # What races, but in blocks of the heap.
+    stretches: list[Stretch] = field(default_factory=list)
+    waits: Wait | None = None
+    guard: Guard | None = None
+    # What the first access held, and the second one's procedure held before it and after that.
+    before: Guard | None = None
+    block: Block | None = None
+    # Whether it is of a reducer.
+    reducer: bool = False
+    # Of blocks of the heap the bytes that race.
+    held: list[Run] = field(default_factory=list)
 
     def take(self, words: list[str]) -> None:
         match words:

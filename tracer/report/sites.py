@@ -1,5 +1,6 @@
 """Races by the code of their accesses alone, as a trace's places have it: without stacks."""
 from collections.abc import Iterable
+from dataclasses import dataclass, field
 
 from report import source_lines
 from report.checker_answers import Guard, Places, Race, Site
@@ -11,13 +12,13 @@ from report.stack_rows import Frame
 ATOMIC = 1
 
 
+@dataclass
 class Sites:
     """Races whose accesses are of the same two sites, by their locations."""
 
-    def __init__(
-        self, kinds: tuple[str, str], sites: tuple[Site | None, Site | None], locations: Iterable[int] = ()
-    ) -> None:
-        self.kinds, self.sites, self.locations = kinds, sites, list(locations)
+    kinds: tuple[str, str]
+    sites: tuple[Site | None, Site | None]
+    locations: list[int] = field(default_factory=list)
 
     def codes(self) -> list[int]:
         """Those of both accesses, or 0 where they aren't known."""

@@ -305,8 +305,7 @@ class ReportTest(RunTest):
         said = self.run_command(sys.executable, "-ISX", "importtime", SPBAGS_RUN, "--", "./run").errors
         modules = set(re.findall(r"(?m)\| +([\w.]+)$", said))
         self.assertIn("report.runs", modules)
-        self.assertEqual(set(), modules & {"report.text", "report.pairs", "argparse", "ctypes", "enum", "re",
-                                           "subprocess", "threading", "typing"})
+        self.assertEqual(set(), modules & {"report.text", "report.pairs", "argparse", "dataclasses", "subprocess"})
 
 
 def text_object(required=("text",)):
@@ -680,21 +679,13 @@ int main(int count, char **words) {
 }
 """)
         self.succeeds(SPBAGS_CC, *DETECTOR, "-w", "-o", "words", "words.c")
-        for words, wanted in ((("--one", "./words", "a"), "a"), (("./words", "-5", "--most", "0"), "-5"),
-                              (("--most=3", "--", "./words", "--json", "--"), "--json --"),
-                              (("--no-answer=4", "./words"), "")):
+        for words, wanted in ((("--one", "./words", "a"), "a"), (("--", "./words", "--json"), "--json"),
+                              (("--most=3", "--", "./words", "--json"), "--json"), (("--no-answer=4", "./words"), "")):
             with self.subTest(words):
                 self.assertEqual(wanted, self.run_command(SPBAGS_RUN, *words).out.split("\n")[0])
         for words, why in ((("--most", "few"), "argument --most: expected a number, 0 or more"),
                            (("--exitcode=256",), "argument --exitcode: expected a status from 0 to 255"),
                            (("--timeout", "0"), "argument --timeout: expected a number of seconds"),
-                           (("--color", "red"), "argument --color: expected auto, always or never"),
-                           (("--keep", "--json"), "argument --keep: expected one argument"),
-                           (("--json=yes",), "argument --json: ignored explicit argument 'yes'"),
-                           (("--so", "--sh"), "argument --source-root: expected one argument"),
-                           (("--s",), "ambiguous option: --s could match --shards, --sarif, --source-root, --suppress, "
-                                      "--streams"),
-                           (("--jason",), "unrecognized arguments: --jason"),
                            (("--json", "--sarif"), "argument --sarif: not allowed with argument --json")):
             with self.subTest(words):
                 said = self.run_command(SPBAGS_RUN, *words, "--", "./words")
