@@ -57,12 +57,11 @@ module _ {T : Type 0} where
     pub list : (1 ≤ most) × (most ≤ LIST)
     pub within : vec_len staged ≤ most
 
-  -- all that was staged at this limit is shown, or is staged at the next one
-  pub record HasStagedOn (limit most next : ℕ) (old new : Giving T) (was now : Vec (Item T) Global) : Type 0 where
+  -- all that was staged is shown, or is staged at the next limit
+  pub record HasStagedOn (most next : ℕ) (old new : Giving T) (was now : Vec (Item T) Global) : Type 0 where
     pub same : SameGiving old new
     pub memory : vec_capacity was ≤ vec_capacity now
     pub put : items_sent new ++ now.items ≡ items_sent old ++ was.items
-    pub shown : 1 ≤ limit → now.items ≡ []
     pub room : room_in old + vec_len now ≤ room_in new + vec_len was
     pub limited : IsLimit next most new now
     pub less : vec_len now < most

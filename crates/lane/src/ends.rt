@@ -36,7 +36,7 @@ pub fn lane<T: Copy + Send>(
     ensures room { IfOk result (λ r. r.0.room ≡ capacity) }
 {
     let most = most_staged(capacity);
-    let lists = 2 * (capacity / most);
+    let lists = capacity / most + 2;
     let Ok((ring, taking)) = RingBuffer::with_protocol::<Global, MarkLast>(alloc, capacity) else {
         return Err(NoMemory);
     };

@@ -30,9 +30,6 @@ pub(crate) struct Giving<T> {
 /// The greatest number of items in a list.
 pub(crate) const LIST: usize = 256;
 
-// So few items go one by one: a list more would lack elsewhere.
-const FEW: usize = 8;
-
 const UNITS: [(); LIST] = [(); LIST];
 
 impl<T: Copy + Send> Giving<T> {
@@ -74,12 +71,10 @@ impl<T: Copy + Send> Giving<T> {
         let Ok(()) = self.units.push_entire_slice(&UNITS[..staged.len()]) else {
             unreachable!()
         };
-        if staged.len() > FEW {
-            if let Ok(list) = self.emptied.pop() {
-                if list.is_empty() && staged.capacity() <= list.capacity() {
-                    show_list(&mut self.ring, replace(staged, list));
-                    return;
-                }
+        if let Ok(list) = self.emptied.pop() {
+            if list.is_empty() && staged.capacity() <= list.capacity() {
+                show_list(&mut self.ring, replace(staged, list));
+                return;
             }
         }
         show_each(&mut self.ring, staged);

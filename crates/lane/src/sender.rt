@@ -195,9 +195,9 @@ pub(crate) fn most_staged(capacity: usize) -> usize
     (capacity / 4).min(LIST).max(1)
 }
 
-// Shows the taker what is staged, and says how many items may be staged next. If the limit is 0 it first looks at the
-// other end, and shows the one item only if no other may be staged with it. `None` if the lane is full; then the item
-// is staged no more.
+// Shows the taker what is staged, and says how many items may be staged next. It shows fewer than the most only if a
+// look at the other end finds no room for more; else they stay staged. `None` if the lane is full; then the item is
+// staged no more.
 #[cold]
 #[inline(never)]
 fn show<T: Copy + Send>(
@@ -207,18 +207,15 @@ fn show<T: Copy + Send>(
     most: usize,
 ) -> Option<usize>
     requires { IsAtLimit limit most giving.old staged.old }
-    ensures some { IfSome result (λ next. HasStagedOn limit most next giving.old giving.new staged.old staged.new) }
+    ensures some { IfSome result (λ next. HasStagedOn most next giving.old giving.new staged.old staged.new) }
     ensures none { IfNone result (WasStuck limit giving.old giving.new staged.old staged.new) }
 {
-    if limit == 0 {
-        if giving.is_full() {
-            staged.clear();
-            return None;
-        }
-        let limit = giving.room().min(most);
-        if staged.len() < limit {
-            return Some(limit);
-        }
+    if limit == 0 && giving.is_full() {
+        staged.clear();
+        return None;
+    }
+    if staged.len() < most && giving.has_room_for(staged.len() + 1) {
+        return Some(giving.room().min(most));
     }
     giving.show(staged);
     Some(giving.room().min(most))

@@ -9,7 +9,7 @@ ghost use Rattle.lane.specs.Slots.{items_in, all_items, HasItem, taken_before, H
 
 use crate::giving::{Giving, LIST};
 use crate::item::{Item, MarkLast, Slot};
-use crate::sender::{End, Sender};
+use crate::sender::{End, Sender, most_staged};
 use rtrb::{Consumer, Producer};
 use std::alloc::Global;
 use std::marker::Model;
@@ -189,6 +189,7 @@ impl<T: Copy + Send> Taker<T> {
         ensures { HasInHand result self.old self.new }
     {
         let Ok(slot) = self.ring.pop() else {
+            self.owed = pop_units(&mut self.units, self.owed);
             return false;
         };
         self.last = slot.is_mark();
@@ -290,17 +291,29 @@ fn give_back<T: Copy + Send>(emptied: &mut Producer<Vec<Item<T>>, Global>, list:
     let _ = emptied.push(list);
 }
 
-// Takes the units of `count` items more, as far as they are there, and says how many are owed then, in a counter that
-// wraps around.
+// Takes the units of `count` items more once a whole list of units is owed: for a few the sender shows a short list,
+// which frees as few again. It says how many are owed then, in a counter that wraps around.
 fn take_units(units: &mut Consumer<(), Global>, owed: usize, count: usize) -> usize
     ensures same { SameConsumer units.old units.new }
     ensures more { length (received units.old) ≤ length (received units.new) }
     ensures taken { length (received units.new) + result ≡ length (received units.old) + (owed + count) % 2 ^ 64 }
 {
     let all = owed.wrapping_add(count);
+    if all < most_staged(units.capacity()) {
+        return all;
+    }
+    pop_units(units, all)
+}
+
+// Takes up to so many units, as far as they are there, and says how many are left.
+fn pop_units(units: &mut Consumer<(), Global>, owed: usize) -> usize
+    ensures same { SameConsumer units.old units.new }
+    ensures more { length (received units.old) ≤ length (received units.new) }
+    ensures taken { length (received units.new) + result ≡ length (received units.old) + owed }
+{
     let mut some = [(); LIST];
-    let most = all.min(LIST);
-    all - units.pop_partial_slice(&mut some[..most])
+    let most = owed.min(LIST);
+    owed - units.pop_partial_slice(&mut some[..most])
 }
 
 // Both ends look at each other, and all units that are owed are taken; `rest` of the items that have come aren't taken.
