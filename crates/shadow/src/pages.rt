@@ -59,7 +59,8 @@ pub trait Guesses: Drop {
 #[derive(Drop)]
 pub struct Pages<P: CellPage, G: Guesses, S: BuildHasher> {
     alloc: Global,
-    map: IndexMap<u64, P, S>,
+    /// The crate's tests count these.
+    pub(crate) map: IndexMap<u64, P, S>,
     guesses: G,
 }
 
@@ -224,57 +225,5 @@ impl<P: CellPage, G: Guesses, S: BuildHasher> Pages<P, G, S> {
         ensures { HasSameCells P.cell self.old self.new }
     {
         self.map.swap_remove(&page);
-    }
-}
-
-#[cfg(test)]
-mod tests {
-    use super::Pages;
-    use crate::page::Page;
-    use crate::recent::Recent;
-    use crate::spot::{Layout, spot_of};
-    use std::alloc::Global;
-    use std::hash::{BuildHasherDefault, FoldHasher};
-    use std::test::Fail;
-
-    /// No page.
-    fn no_pages(
-        alloc: Global,
-        layout: Layout,
-    ) -> Pages<Page, Recent, BuildHasherDefault<FoldHasher>> {
-        Pages::new(alloc, Recent::new(layout), BuildHasherDefault::default())
-    }
-
-    /// How many pages 10,000 consecutive locations of the third of `shards` shards take.
-    fn pages_taken(alloc: Global, shards: u64) -> Result<usize, Fail> {
-        let layout = Layout::Shards(shards);
-        let mut pages = no_pages(alloc, layout);
-        for number in 0..10_000u64 {
-            if 1 <= shards && shards <= 64 {
-                let spot = spot_of(number.wrapping_mul(shards).wrapping_add(2), layout);
-                let _ = pages.find(spot.page, spot.slot)?;
-            }
-        }
-        Ok(pages.map.len())
-    }
-
-    #[test]
-    fn pages_are_full(rt: HostRuntime) -> Result<(), Fail> {
-        for shards in [1, 2, 3, 4, 5, 6, 8, 12, 16, 32, 61, 64] {
-            let taken = pages_taken(rt.alloc(), shards)?;
-            assert!(rt; 1250 <= taken && taken <= 1264, "{shards}");
-        }
-        Ok(())
-    }
-
-    #[test]
-    fn pages_of_a_program_are_full(rt: HostRuntime) -> Result<(), Fail> {
-        let mut pages = no_pages(rt.alloc(), Layout::Program);
-        for unit in 0..10_000u64 {
-            let spot = spot_of(2 * unit, Layout::Program);
-            let _ = pages.find(spot.page, spot.slot)?;
-        }
-        assert_eq!(rt; pages.map.len(), 1250);
-        Ok(())
     }
 }

@@ -159,3 +159,44 @@ impl<S: BuildHasher> Shadow<S> {
         self.pages.forget(spot.page, spot.slot, spot);
     }
 }
+
+#[cfg(test)]
+mod tests {
+    use super::Shadow;
+    use bags::Bags;
+    use dag::Kind;
+    use std::alloc::Global;
+    use std::hash::{BuildHasherDefault, FoldHasher};
+    use std::test::Fail;
+
+    type Hasher = BuildHasherDefault<FoldHasher>;
+
+    /// How many pages 10,000 locations take that are `apart` apart, the first of them 2.
+    fn pages_taken(alloc: Global, mut shadow: Shadow<Hasher>, apart: u64) -> Result<usize, Fail> {
+        let bags = Bags::new(alloc)?;
+        for number in 0..10_000u64 {
+            let (location, place) = (number.wrapping_mul(apart).wrapping_add(2), number + 1);
+            if shadow.last_place() < place && shadow.least_count() <= bags.count() {
+                let _ = shadow.touch(&bags, location, Kind::Read, place)?;
+            }
+        }
+        Ok(shadow.pages.map.len())
+    }
+
+    #[test]
+    fn pages_are_full(rt: HostRuntime) -> Result<(), Fail> {
+        for shards in [1, 2, 3, 4, 5, 6, 8, 12, 16, 32, 61, 64] {
+            let shadow = Shadow::for_shards(rt.alloc(), Hasher::default(), shards);
+            let taken = pages_taken(rt.alloc(), shadow, shards)?;
+            assert!(rt; 1250 <= taken && taken <= 1264, "{shards}");
+        }
+        Ok(())
+    }
+
+    #[test]
+    fn pages_of_a_program_are_full(rt: HostRuntime) -> Result<(), Fail> {
+        let shadow = Shadow::for_program(rt.alloc(), Hasher::default());
+        assert_eq!(rt; pages_taken(rt.alloc(), shadow, 2)?, 1251);
+        Ok(())
+    }
+}
