@@ -1,5 +1,5 @@
 -- One more record: the state after it, and the races found up to it.
-use Rattle.shadow.proofs.Common.{◌≡◌, List, [], ◌∷◌, ◌++◌, Option, refl, sym, ap, ◌∙◌, ℕ, ◌==◌, true, length, eq-eqb, eqb-true, Record, Procedures, Result, Ok, Err, OnOk, IfOk, Placed, RaceAt, after_record, race_of, found, SpBags, state_of, HasSeen, HasApplied, is_root_return, option_to_list}
+use Rattle.shadow.proofs.Common.{◌≡◌, List, [], ◌∷◌, ◌++◌, Option, refl, sym, ap, ◌∙◌, true, length, eq-eqb, eqb-true, Record, Procedures, Result, Ok, Err, OnOk, IfOk, Placed, RaceAt, after_record, race_of, found, SpBags, state_of, HasSeen, HasApplied, is_root_return, option_to_list}
 use Rattle.dag.specs.declared.records.Record.TheVariants as records
 use Rattle.shadow.proofs.FoundLaws.{state_after-push, found-push}
 
