@@ -78,7 +78,8 @@ class Compiler:
         header = os.path.join(HERE, "spbags_cilk.h")
         command = [*self.command, "-E", *INCLUDES, "-include", header, "-D__cilk=300", *self.words.compiling]
         command += [*self.words.openmp, self.words.level, "-U_FORTIFY_SOURCE", *dependencies]
-        command += ["-x", LANGUAGE] if self.words.named_language else []
+        # The compiler would leave out what is preprocessed already.
+        command += ["-x", LANGUAGE] if self.words.named_language or source.endswith((".i", ".ii")) else []
         run(*command, source, "-o", text_name)
         return text_of(text_name)
 

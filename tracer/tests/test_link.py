@@ -276,6 +276,12 @@ class OptionsTest(LinkTest):
         self.assertEqual("55\n", self.run_command("./from_input", SPBAGS_TRACE="run.trace").out)
         self.assertEqual("trace 2", cases.records_of("run.trace")[0])
 
+    def test_preprocessed(self):
+        self.succeeds(SPBAGS_CC, "-E", "-o", "ready.i", "fib.c")
+        self.succeeds(SPBAGS_CC, *cases.DETECTOR, "-o", "ready", "ready.i")
+        self.assertEqual("55\n", self.run_command("./ready", SPBAGS_TRACE="run.trace").out)
+        self.assertEqual("trace 2", cases.records_of("run.trace")[0])
+
     def test_assembler(self):
         self.write("three.S", THREE)
         self.write("calls_three.c", "int three(void); int main(void) { return three() - 3; }\n")
