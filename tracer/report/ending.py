@@ -1,11 +1,10 @@
 """What the text of a report says of the whole: all that there is to say of a run without a race."""
 from __future__ import annotations
 
-import textwrap
-from collections.abc import Iterator
-from typing import TYPE_CHECKING
-
+TYPE_CHECKING = False
 if TYPE_CHECKING:
+    from collections.abc import Iterator
+
     from report.outcome import Unseen
     from report.result import Report
     from report.suppressions import Used
@@ -23,6 +22,10 @@ def spelled(number: int, name: str) -> str:
 
 
 def wrapped(text: str, width: int, first: str = "", indent: str = INDENT) -> list[str]:
+    if not first and text.isprintable() and 0 < len(text) <= width:
+        return [text]
+    import textwrap
+
     return textwrap.wrap(text, width, initial_indent=first, subsequent_indent=indent, break_on_hyphens=False)
 
 

@@ -21,14 +21,16 @@ of the source that has this code.
     seeming               some of the races may be none
     note                  what the report doesn't say
 """
-from collections.abc import Iterable
-from typing import NamedTuple
+from __future__ import annotations
+
+TYPE_CHECKING = False
+if TYPE_CHECKING:
+    from collections.abc import Iterable
 
 
-class Record(NamedTuple):
-    name: str
-    words: list[str]
-    text: str
+class Record:
+    def __init__(self, name: str, words: list[str], text: str) -> None:
+        self.name, self.words, self.text = name, words, text
 
 
 def record_of(line: str) -> Record:

@@ -32,7 +32,8 @@ def object_of(value: Any) -> Any:
         return {**value._asdict(), "text": source_lines.text_of(value)}
     if isinstance(value, Frame):
         return {"role": value.role, **object_of(value.position)}
-    return {name: object_of(one) for name, one in value._asdict().items()} if hasattr(value, "_asdict") else value
+    parts = value._asdict() if hasattr(value, "_asdict") else getattr(value, "__dict__", None)
+    return value if parts is None else {name: object_of(one) for name, one in parts.items()}
 
 
 def variable_object(variable: "Variable") -> dict[str, Any]:

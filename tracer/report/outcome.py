@@ -1,16 +1,19 @@
 """What came of a run of a traced program."""
-import signal
-from typing import BinaryIO, NamedTuple
+from __future__ import annotations
 
 from report.messages import Record, record_of, texts_of, with_lines
+from report.system import signal
+
+TYPE_CHECKING = False
+if TYPE_CHECKING:
+    from typing import BinaryIO
 
 
-class Unseen(NamedTuple):
+class Unseen:
     """A function that nothing is known of, the library or the file that has it, and how often it was called."""
 
-    function: str
-    library: str
-    calls: int
+    def __init__(self, function: str, library: str, calls: int) -> None:
+        self.function, self.library, self.calls = function, library, calls
 
 
 def unseen_of(records: list[Record]) -> list[Unseen]:

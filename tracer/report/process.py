@@ -2,8 +2,12 @@
 from __future__ import annotations
 
 import os
-import signal
-from collections.abc import Iterable, Mapping
+
+from report.system import signal
+
+TYPE_CHECKING = False
+if TYPE_CHECKING:
+    from collections.abc import Iterable, Mapping
 
 
 class Process:

@@ -2,9 +2,8 @@
 from __future__ import annotations
 
 import os
-import struct
-import threading
 import time
+from _thread import allocate_lock, start_new_thread
 
 TYPE_CHECKING = False
 if TYPE_CHECKING:
@@ -12,7 +11,7 @@ if TYPE_CHECKING:
 
 # The page that the hooks write: how many spawns and accesses the detector inside has taken, and how many locations
 # have raced.
-TAKEN = struct.Struct("<QQQ")
+TAKEN = "<QQQ"
 # So many seconds something is done before a line says so, and between two lines.
 PATIENCE, STEP = 2, 1
 # Makes a line below, remembers the place, and goes there; the rest is the same way back. Behind the program's own text
@@ -34,10 +33,10 @@ class Progress:
     """The line; without a terminal nothing comes of it."""
 
     def __init__(self) -> None:
-        self.lock, self.began, self.is_shown = threading.Lock(), 0.0, False
+        self.lock, self.began, self.is_shown = allocate_lock(), 0.0, False
         self.what: str | None = None
         self.with_races = ""
-        self.thread: threading.Thread | None = None
+        self.is_running = False
         # The file that the hooks write, and its page.
         self.file: int | None = None
         self.page: mmap.mmap | None = None
@@ -54,12 +53,14 @@ class Progress:
         if not self.page:
             return
         self.erase()
+        import struct
+
         with self.lock:
-            TAKEN.pack_into(self.page, 0, 0, 0, races)
+            struct.pack_into(TAKEN, self.page, 0, 0, 0, races)
             self.what, self.with_races, self.began = what, with_races, time.monotonic()
-        if not self.thread:
-            self.thread = threading.Thread(target=self.run, args=(self.page,), daemon=True)
-            self.thread.start()
+        if not self.is_running:
+            self.is_running = True
+            start_new_thread(self.run, (self.page,))
 
     def erase(self) -> None:
         """Another line comes."""
@@ -73,12 +74,14 @@ class Progress:
             self.write("")
 
     def run(self, page: mmap.mmap) -> None:
+        import struct
+
         while True:
             time.sleep(STEP)
             with self.lock:
                 seconds = time.monotonic() - self.began
                 if self.what and seconds >= PATIENCE:
-                    _, accesses, races = TAKEN.unpack_from(page)
+                    _, accesses, races = struct.unpack_from(TAKEN, page)
                     parts = [f"{seconds:.0f} s"]
                     parts += [f"{spelled(accesses)} accesses"] if accesses > 0 else []
                     parts += [f"{spelled(races)} race{'' if races == 1 else 's'}"] if accesses + races > 0 else []

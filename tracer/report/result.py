@@ -1,8 +1,7 @@
 """The report of `spbags-run`."""
 from __future__ import annotations
 
-from typing import TYPE_CHECKING, NamedTuple
-
+TYPE_CHECKING = False
 if TYPE_CHECKING:
     from report.outcome import Unseen
     from report.pairs import Pair
@@ -19,17 +18,16 @@ UNKNOWN_GUARD = "unknown"
 THREAD_LOCAL = "thread-local"
 
 
-class Count(NamedTuple):
-    pairs: int
-    races: int
+class Count:
+    def __init__(self, pairs: int, races: int) -> None:
+        self.pairs, self.races = pairs, races
 
 
-class Ended(NamedTuple):
+class Ended:
     """How the program ended, and whether the run was whole."""
 
-    status: int | None
-    signal: int | None
-    complete: bool
+    def __init__(self, status: int | None, signal: int | None, complete: bool) -> None:
+        self.status, self.signal, self.complete = status, signal, complete
 
 
 class Report:

@@ -1,18 +1,16 @@
 """Runs of a traced program: with its trace into `spbags check`, and with a look at the races' places."""
 from __future__ import annotations
 
-import ctypes
-import importlib
 import os
-import signal
-import threading
 import time
+from _thread import TIMEOUT_MAX
 
 from report.failure import Failure
 from report.process import Process
 from report.program_input import Input
 from report.progress import Progress
 from report.record_pipe import RecordPipe
+from report.system import fix_addresses, signal
 
 TYPE_CHECKING = False
 if TYPE_CHECKING:
@@ -26,7 +24,6 @@ if TYPE_CHECKING:
 MEANWHILE = ("report.outcome", "report.result", "report.ending")
 # What the hooks of a program have in them that says such records, and those with the detector inside.
 MARK, INSIDE = b"SPBAGS_RECORDS", b"SPBAGS_INSIDE"
-PERSONALITY, ADDR_NO_RANDOMIZE = ctypes.CDLL(None).personality, 0x0040000
 MOST_DEPTH = "1000000"
 # What the environment of each run has.
 OWN = "PLACES TRACE REPORT EXITCODE LOOK DIVIDE LAST WAITED OTHERS PROGRESS HELP ROOM"
@@ -79,7 +76,7 @@ def wait_for(
 ) -> int | None:
     """Waits until the process has ended, which gives None; until such a signal has come, which gives its number; or, as
     0, until the time is over."""
-    end = time.monotonic() + (threading.TIMEOUT_MAX if seconds is None else seconds)
+    end = time.monotonic() + (TIMEOUT_MAX if seconds is None else seconds)
     while process.poll() is None:
         left = end - time.monotonic()
         if left <= 0:
@@ -88,12 +85,6 @@ def wait_for(
         if came and came.si_signo != signal.SIGCHLD and hears(came):
             return came.si_signo
     return None
-
-
-def fix_addresses() -> None:
-    """The programs that are started from now on have their memory at the same addresses, as far as the system lets
-    us."""
-    PERSONALITY(ctypes.c_ulong(PERSONALITY(ctypes.c_ulong(0xFFFFFFFF)) | ADDR_NO_RANDOMIZE))
 
 
 def memory_file() -> BinaryIO:
@@ -181,7 +172,7 @@ class Runner:
             os.close(nowhere)
         pipe.start()
         for module in MEANWHILE:
-            importlib.import_module(module)
+            __import__(module)
         return program
 
     def environment(self, pipe: RecordPipe, files: dict[str, int], settings: dict[str, str]) -> dict[str, str]:

@@ -305,7 +305,8 @@ class ReportTest(RunTest):
         said = self.run_command(sys.executable, "-ISX", "importtime", SPBAGS_RUN, "--", "./run").errors
         modules = set(re.findall(r"(?m)\| +([\w.]+)$", said))
         self.assertIn("report.runs", modules)
-        self.assertEqual(set(), modules & {"report.text", "report.pairs", "argparse", "dataclasses", "subprocess"})
+        self.assertEqual(set(), modules & {"report.text", "report.pairs", "argparse", "ctypes", "dataclasses", "enum", "re",
+                                           "subprocess", "threading", "typing"})
 
 
 def text_object(required=("text",)):
