@@ -1,4 +1,4 @@
--- Of the sender's end of what a lane is made of.
+-- Private: the sender's end of what a lane is made of.
 use Rattle.std.specs.Prelude.{◌≡◌, ℕ, ◌+◌, ◌<◌, ◌≤◌, min, false, List, [], ◌++◌, length, vec_len, vec_capacity, Vec}
 use Rattle.std.specs.declared.alloc.Global.{Global}
 use Rattle.rtrb.specs.Ring.{sent, known_free, producer_capacity, SameProducer}

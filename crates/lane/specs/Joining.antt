@@ -1,4 +1,4 @@
--- Items that join those that a ring's slots have.
+-- Private: items that join those that a ring's slots have.
 use Rattle.std.specs.Prelude.{◌≡◌, ◌+◌, ◌≤◌, true, false, List, ◌++◌, length}
 use Rattle.std.specs.declared.alloc.Global.{Global}
 use Rattle.rtrb.specs.Ring.{sent, known_free, SameProducer}

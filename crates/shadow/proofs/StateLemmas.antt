@@ -1,5 +1,5 @@
 -- One more record: the state after it, and the races found up to it.
-use Rattle.shadow.proofs.Common.{◌≡◌, List, [], ◌∷◌, ◌++◌, Option, refl, sym, ap, ◌∙◌, true, length, eq-eqb, eqb-true, Record, Procedures, Result, Ok, Err, OnOk, IfOk, Placed, RaceAt, after_record, race_of, found, SpBags, state_of, HasSeen, HasApplied, is_root_return, option_to_list}
+use Rattle.shadow.proofs.Common.{◌≡◌, List, [], ◌∷◌, ◌++◌, Option, refl, sym, ap, ◌∙◌, true, length, eq-eqb, eqb-true, Record, Procedures, Result, Ok, Err, OnOk, Placed, RaceAt, after_record, race_of, found, SpBags, state_of, HasSeen, HasApplied, is_root_return, option_to_list}
 use Rattle.dag.specs.declared.records.Record.TheVariants as records
 use Rattle.shadow.proofs.FoundLaws.{state_after-push, found-push}
 
@@ -29,7 +29,3 @@ root_by b (records.Write l) is one = absurd (cc)
 pub map_OnOk : {T E : Type 0} (r : Result T E) (P Q : Type 0) → (P → Q) → OnOk r P → OnOk r Q
 map_OnOk (Ok x) P Q f h = f h
 map_OnOk (Err e) P Q f h = h
-
-pub map_IfOk : {T E : Type 0} (r : Result T E) (P Q : T → Type 0) → ((x : T) → P x → Q x) → IfOk r P → IfOk r Q
-map_IfOk (Ok x) P Q f h = f x h
-map_IfOk (Err e) P Q f h = h

@@ -1,17 +1,19 @@
-use Rattle.std.proofs.lemmas.Option.{IfSome_then}
+use Rattle.std.proofs.Common.{arith, refl, codes}
+use Rattle.trace.proofs.Fronts.{word_and_digits}
 use Rattle.trace.proofs.front.front_of.Goals as goal
 
-pub returns-then-word_of-from_le_bytes : goal.returns-then-word_of-from_le_bytes
-returns-then-word_of-from_le_bytes c = IfSome_then c.read_of.result c.read_of.ensures (λ f front v is. front v)
+pub returns-in_ok-number : goal.returns-in_ok-number
+returns-in_ok-number c v is =
+    let number = c.in_ok-number.number in
+    let spelled = c.in_ok-number.ensures in
+    let begins = c.begins_with.ensures c.if-begins_with.true in
+    let is_line = word_and_digits c.args.piece.now (codes "read ") _ 5 number.digits number.value begins refl spelled.within (omega arith) spelled.spelled spelled.ended in
+    record { within = omega (arith, spelled.within); is_line = is_line; fits = omega arith }
 
-pub returns-then-word_of-from_le_bytes-2 : goal.returns-then-word_of-from_le_bytes-2
-returns-then-word_of-from_le_bytes-2 c = IfSome_then c.write_of.result c.write_of.ensures (λ f front v is. front v)
-
-pub returns-then-word_of-from_le_bytes-3 : goal.returns-then-word_of-from_le_bytes-3
-returns-then-word_of-from_le_bytes-3 c = IfSome_then c.spawn_of.result c.spawn_of.ensures (λ f front v is. front v)
-
-pub returns-then-word_of-from_le_bytes-4 : goal.returns-then-word_of-from_le_bytes-4
-returns-then-word_of-from_le_bytes-4 c = IfSome_then c.return_of.result c.return_of.ensures (λ f front v is. front v)
-
-pub returns-then-word_of-from_le_bytes-5 : goal.returns-then-word_of-from_le_bytes-5
-returns-then-word_of-from_le_bytes-5 c = IfSome_then c.sync_of.result c.sync_of.ensures (λ f front v is. front v)
+pub returns-in_ok-number-2 : goal.returns-in_ok-number-2
+returns-in_ok-number-2 c v is =
+    let number = c.in_ok-number-2.number in
+    let spelled = c.in_ok-number-2.ensures in
+    let begins = c.begins_with-else-begins_with.ensures c.if-begins_with-2.true in
+    let is_line = word_and_digits c.args.piece.now (codes "write ") _ 6 number.digits number.value begins refl spelled.within (omega arith) spelled.spelled spelled.ended in
+    record { within = omega (arith, spelled.within); is_line = is_line; fits = omega arith }
