@@ -6,9 +6,9 @@ import os
 import sys
 
 import cache
-from compile.options import ASSEMBLY, IS_CPLUSPLUS, LANGUAGE, Words, fail, say, text_of, write
-from compile.processes import answer, run
+from compile.options import ASSEMBLY, IS_CPLUSPLUS, LANGUAGE, Words, fail, run, say, text_of, write
 from installation import HERE
+from processes import answer
 
 TYPE_CHECKING = False
 if TYPE_CHECKING:

@@ -7,10 +7,10 @@ import os
 import cache
 from compile import link_inputs
 from compile.compiler import Compiler
-from compile.options import TRACE, fail, write
-from compile.processes import run, start, status_of
+from compile.options import TRACE, fail, run, write
 from elf import HOOKS
 from installation import ARCHIVE, CRATES, HERE, IS_INSTALLED
+from processes import Process
 
 # What the hooks define in place of the library.
 OWN = set("malloc calloc realloc free aligned_alloc memalign valloc pvalloc posix_memalign malloc_usable_size".split())
@@ -32,7 +32,7 @@ def files_of_hooks() -> list[str]:
 
 def is_built() -> bool:
     with open(os.devnull, "rb") as nothing:
-        return status_of(start([BUILD, "inside"], [(0, nothing.fileno())])) == 0
+        return Process([BUILD, "inside"], {0: nothing.fileno()}).wait() == 0
 
 
 def detector_library() -> str:

@@ -7,11 +7,11 @@ import sys
 
 from compile import link_inputs
 from compile import shared_libraries
-from compile.options import NAME, TRACE, Words, fail, say, write
+from compile.options import NAME, TRACE, Words, fail, run, say, write
 from compile.compiler import COMPILERS, Compiler, named_compiler
 from compile.hooks import OWN, Hooks, detector_library
 from installation import ARCHIVE, HERE
-from compile.processes import Folder, answer, heard, run
+from processes import Folder, answer, heard
 
 
 class Link:
@@ -76,7 +76,7 @@ class Link:
         own = [*self.stubs(found, hooks), *link_inputs.wrapping(found, hooks.wrapped, self.folder)]
         detector = [hooks.detector(library), "-lpthread"] if library else []
         link = [*self.command, "-no-pie", *own, *items, hooks.object, *detector, "-ldl"]
-        status, said = heard([*link, "-o", self.output], 2)
+        status, said = heard([*link, "-o", self.output], 2, {})
         sys.stderr.write(said)
         explain(said)
         if status == 0 and parts is None:

@@ -8,9 +8,9 @@ from collections.abc import Iterable, Iterator
 from collections import namedtuple
 
 from compile.compiler import MARK
-from compile.options import write
-from compile.processes import answer, run
+from compile.options import run, write
 from elf import CODE, UNDEFINED, WEAK_CODE, Bytes, members_of, opened, symbols_of
+from processes import answer
 
 # The libraries of the C compiler itself.
 SYSTEM = re.compile(

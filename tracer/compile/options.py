@@ -6,6 +6,8 @@ import re
 import sys
 from collections.abc import Iterable, Iterator
 
+from processes import Process
+
 TYPE_CHECKING = False
 if TYPE_CHECKING:
     from typing import NoReturn
@@ -59,6 +61,16 @@ def say(message: str) -> None:
 def fail(message: str, status: int = 1) -> NoReturn:
     say(message)
     sys.exit(status)
+
+
+def run(*words: str) -> None:
+    """Ends this command where that one fails."""
+    try:
+        status = Process([*words], {}).wait()
+    except OSError as error:
+        fail(f"{words[0]}: {error.strerror}")
+    if status != 0:
+        sys.exit(status if status > 0 else 1)
 
 
 class Words:

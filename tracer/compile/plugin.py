@@ -6,9 +6,9 @@ import os
 import re
 
 import cache
-from compile.options import fail, write
-from compile.processes import answer, run
+from compile.options import fail, run, write
 from installation import HERE
+from processes import answer
 
 PLUGINS = os.path.join(HERE, "plugins")
 FLAGS = ["-std=c++17", "-O1", "-fPIC", "-fno-rtti"]

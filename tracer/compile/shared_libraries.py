@@ -6,8 +6,7 @@ from __future__ import annotations
 import os
 
 from compile.link_inputs import Part
-from compile.options import fail, text_of, write
-from compile.processes import run
+from compile.options import fail, run, text_of, write
 
 OBJECTS, NEEDED = ".spbags_objects", ".spbags_needed"
 

@@ -21,8 +21,8 @@ import sys
 
 from compile.compiler import INCLUDES, Compiler
 from compile.options import COMPILE_HOOKS, ENDINGS, NAME, OWN_OPTIONS, Words, expanded, fail
-from compile.processes import Folder
 from installation import VERSION
+from processes import Folder
 
 TYPE_CHECKING = False
 if TYPE_CHECKING:

@@ -1,8 +1,8 @@
 """What came of a run of a traced program."""
 from __future__ import annotations
 
+from processes import signal
 from report.messages import Record, record_of, texts_of, with_lines
-from report.system import signal
 
 TYPE_CHECKING = False
 if TYPE_CHECKING:

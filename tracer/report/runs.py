@@ -5,12 +5,11 @@ import os
 import time
 from _thread import TIMEOUT_MAX
 
+from processes import USUAL, Process, fix_addresses, memory_file, signal
 from report.failure import Failure
-from report.process import Process
 from report.program_input import Input
 from report.progress import Progress
 from report.record_pipe import RecordPipe
-from report.system import fix_addresses, signal
 
 TYPE_CHECKING = False
 if TYPE_CHECKING:
@@ -67,6 +66,8 @@ def length_of(environment: Iterable[tuple[str, str]]) -> int:
 
 # What may come while a process runs. It is pending until it is asked for. A terminal's signals are the program's too.
 AWAITED = {signal.SIGCHLD, signal.SIGINT, signal.SIGTERM}
+# What may be ignored here: Python does that, and who starts a command in the background.
+HANDLED = (*USUAL, signal.SIGINT)
 
 
 def wait_for(
@@ -85,11 +86,6 @@ def wait_for(
         if came and came.si_signo != signal.SIGCHLD and hears(came):
             return came.si_signo
     return None
-
-
-def memory_file() -> BinaryIO:
-    """A file that is on no disk."""
-    return open(os.memfd_create("spbags"), "w+b")
 
 
 def file_of(numbers: list[int]) -> BinaryIO:
@@ -164,7 +160,9 @@ class Runner:
         own = {0: given, **({1: nowhere, 2: nowhere} if silent else self.output)}
         passed = {file: file for file in (pipe.into, *files.values())}
         try:
-            program = Process(self.words, self.environment(pipe, files, settings), {**own, **passed}, self.mask)
+            program = Process(
+                self.words, {**own, **passed}, self.environment(pipe, files, settings), self.mask, HANDLED
+            )
         except OSError as error:
             raise Failure(f"{self.words[0]}: {error.strerror}") from error
         finally:
@@ -242,7 +240,7 @@ class Runner:
         """`spbags check` of a trace, and the files of its report and of its faults."""
         command = [checker(), "check", "--depth", MOST_DEPTH, *self.checking, trace]
         files = {1: answer.fileno(), 2: faults.fileno(), **({} if source is None else {0: source})}
-        return Process(command, os.environ, files, AWAITED)
+        return Process(command, files, os.environ, AWAITED, HANDLED)
 
     def kept(self, trace: str, silent: bool, settings: dict[str, str]) -> Run:
         """A run whose trace and places are kept, and the report."""

@@ -6,6 +6,7 @@ from collections.abc import Iterable
 from typing import NamedTuple
 
 from installation import SYSTEM, is_own
+from processes import heard, memory_file
 from report.failure import Failure
 from report.root import Root
 
@@ -41,15 +42,17 @@ CODE = re.compile("<code (0x[0-9a-f]+)>")
 
 def asked(*command: str, given: str = "") -> str:
     """What a program of binutils answers."""
-    import subprocess
-
-    try:
-        answer = subprocess.run(command, input=given, capture_output=True, text=True, errors="surrogateescape")
-    except OSError as error:
-        raise Failure(f"{command[0]}: {error.strerror}") from error
-    if answer.returncode != 0:
-        raise Failure(answer.stderr.strip() or f"{command[0]} gave no answer")
-    return answer.stdout
+    with memory_file() as questions, memory_file() as faults:
+        questions.write(given.encode(errors="surrogateescape"))
+        questions.seek(0)
+        try:
+            status, answer = heard([*command], 1, {0: questions.fileno(), 2: faults.fileno()})
+        except OSError as error:
+            raise Failure(f"{command[0]}: {error.strerror}") from error
+        if status != 0:
+            faults.seek(0)
+            raise Failure(faults.read().decode(errors="replace").strip() or f"{command[0]} gave no answer")
+    return answer
 
 
 def demangled(names: Iterable[str]) -> dict[str, str]:

@@ -16,6 +16,7 @@ from __future__ import annotations
 import os
 import sys
 
+from processes import memory_file
 from report import runs
 from report.failure import Failure, reason_of
 from report.options import Options, parsed
@@ -85,7 +86,7 @@ class Session:
     def find(self) -> Report:
         """The races, and the pairs of source positions. All that the first run found is reported, whatever comes of
         later ones, unless one with the same course shows that it is none."""
-        with runs.memory_file() as waited:
+        with memory_file() as waited:
             files = {"SPBAGS_WAITED": waited.fileno()}
             self.runner.files = files
             run, places = self.traced()
