@@ -1,5 +1,6 @@
 //! The record at the front of a piece of a trace's text, if its line is of an easy form.
-ghost use Rattle.std.specs.Prelude.{◌≡◌, ◌<◌, ◌≤◌, true, length, take, IfSome, Some};
+ghost use Rattle.std.specs.Prelude.{◌≡◌, ◌<◌, ◌≤◌, true, length, take, slice_index, IfSome, Some};
+ghost use Rattle.std.specs.Int.{w32, from_le_bytes};
 ghost use Rattle.dag.specs.Bounds.{longest_line};
 ghost use Rattle.trace.specs.Fronts.{IsFront};
 ghost use Rattle.dag.specs.declared.records.Version.{Version};
@@ -70,12 +71,35 @@ fn call_of(version: Option<Version>, piece: &[u8]) -> Option<Front>
     }
 }
 
-// Whether a text of four bytes or more is at the front. The first four are compared at once.
+// Whether a text of four to seven bytes is at the front. The first four are compared at once, and the others one by one:
+// `==` of slices is a loop.
 #[inline(always)]
 fn begins_with(piece: &[u8], text: &[u8]) -> bool
     requires some { 4 ≤ length text.now }
-    requires whole { length text.now ≤ length piece.now }
+    requires few { length text.now ≤ 7 }
+    requires whole { longest_line < length piece.now }
     ensures { result ≡ true → take (length text.now) piece.now ≡ text.now }
 {
-    piece[..4] == text[..4] && piece[4..text.len()] == text[4..]
+    word_of(piece) == word_of(text)
+        && is_same_at(piece, text, 4)
+        && is_same_at(piece, text, 5)
+        && is_same_at(piece, text, 6)
+}
+
+// The first four bytes as one number.
+#[inline(always)]
+fn word_of(bytes: &[u8]) -> u32
+    requires { 4 ≤ length bytes.now }
+    ensures { result ≡ from_le_bytes w32 bytes.now }
+{
+    u32::from_le_bytes([bytes[0], bytes[1], bytes[2], bytes[3]])
+}
+
+// Whether the byte there is the text's, if that has one.
+#[inline(always)]
+fn is_same_at(piece: &[u8], text: &[u8], at: usize) -> bool
+    requires { at < length piece.now }
+    ensures { result ≡ true → at < length text.now → slice_index piece.now at ≡ slice_index text.now at }
+{
+    at >= text.len() || piece[at] == text[at]
 }
