@@ -152,10 +152,6 @@ within_apart records.Sync a = tt
 within_apart (records.Read l) a = a.1
 within_apart (records.Write l) a = a.1
 
-pub apart_access : (kind : Kind) (l : ℕ) → l % 2 ≢ 0 → l < 2 ^ 64 → IsApart (access kind l)
-apart_access kinds.Read l odd fits = (odd, fits)
-apart_access kinds.Write l odd fits = (odd, fits)
-
 -- where a growth was refused
 pub opening : (u : List Placed) (lives : ℕ → ℕ) (d : Online) (r : Record) → IsApart r → MayGrow d.sp_bags.shadow r → HasTakenPlaced u lives d → IsOpening u (in_life lives r)
 opening u lives d records.Spawn a m h = tt
@@ -227,24 +223,6 @@ pub met_both : (v w : List Placed) (d m e : Online) → TakesPlaced v d m → Ta
 met_both v w d m e first second u lives h =
     let f = placed_in_life lives in
     subst (λ l. HasTakenPlaced l lives e) (append_assoc u (map f v) (map f w) ∙ ap (λ l. u ++ l) (sym (map-append f v w))) (second (u ++ map f v) lives (first u lives h))
-
-not_root : (b : Procedures) (kind : Kind) (l : ℕ) → is_root_return b (access kind l) ≡ false
-not_root b kinds.Read l = refl
-not_root b kinds.Write l = refl
-
--- one access is a record
-pub followed_access : (kind : Kind) (l units : ℕ) (d e : Online) → TakesPlaced (accesses l kind (d.sp_bags.last_place + 1) units) d e → accesses l kind (d.sp_bags.last_place + 1) units ≡ record { place = d.sp_bags.last_place + 1; what = access kind l } ∷ []
-    → e.sp_bags.last_place ≡ d.sp_bags.last_place + count_ones units → count_ones units ≡ 1 → HasOnlyAccessed d e → HasFollowedNext (access kind l) d e
-followed_access kind l units d e met alone last one only = record {
-  met = subst (λ v. TakesPlaced v d e) alone met;
-  last = last ∙ ap (λ n. d.sp_bags.last_place + n) one;
-  ended = only.ended ∙ or_false d.sp_bags.ended ∙ ap (λ b. d.sp_bags.ended || b) (sym (not_root d.sp_bags.bags kind l));
-  going = only.going;
-}
-  where
-    or_false : (b : Bool) → b ≡ (b || false)
-    or_false true = refl
-    or_false false = refl
 
 -- what holds where it is known that all went well
 pub where_ok : {T E : Type 0} {x : T} (r : Result T E) (P : Type 0) → r ≡ Ok x → OnOk r P → P

@@ -185,24 +185,13 @@ impl<S: BuildHasher + Drop> Detector<S> {
         ensures want { OnErr result (Wants what self.old) }
     {
         match what {
-            Record::Read(location) => self.access(what, location, Kind::Read),
-            Record::Write(location) => self.access(what, location, Kind::Write),
-            Record::Spawn | Record::Call | Record::Return | Record::Sync => self.apply(what),
-        }
-    }
-
-    // Takes this access of the location at the next place.
-    #[inline(always)]
-    fn access(&mut self, what: Record, location: u64, kind: Kind) -> Result<(), NoMemory>
-        requires room { self.old.sp_bags.last_place < most_records }
-        requires is { what ≡ access kind location }
-        ensures followed { OnOk result (HasFollowedNext what self.old self.new) }
-        ensures want { OnErr result (Wants what self.old) }
-    {
-        if location % 2 == 0 {
-            self.touch(location, kind, unit_of(location))
-        } else {
-            self.apply(what)
+            Record::Read(location) if location % 2 == 0 => {
+                self.touch(location, Kind::Read, unit_of(location))
+            }
+            Record::Write(location) if location % 2 == 0 => {
+                self.touch(location, Kind::Write, unit_of(location))
+            }
+            _ => self.apply(what),
         }
     }
 
