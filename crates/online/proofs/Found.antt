@@ -1,5 +1,5 @@
 -- What a detector has found, after more records.
-use Rattle.online.proofs.Common.{◌≡◌, ◌≢◌, ℕ, ◌%◌, ◌^◌, ◌<◌, ◌≤◌, ◌⊎◌, inl, inr, ⊎_elim, arith, cond, nat_eq, false, List, [], ◌∷◌, ◌++◌, append_assoc, map, refl, sym, ◌∙◌, ap, subst, Option, None, Some, Result, Ok, Err, OnOk, OnErr, IsErr, option_to_list, cases_lt, eq-eqb, ne_eqb, map-append, Back, Race, NoMemory, Record, Placed, Kind, access, RaceAt, Active, Cell, untouched, touched, race_at, Shadow, kept_of, with_cell, State, state_at_start, state_from, state_after, after_record, bags-after_record, found, found_from, state_from-append, found_from-append, found-push, Collection, KeepsBest, races_of, fails, location_of, touched_at, Blocks, kept_in_blocks, block_of, unit_of, first_of, kept_after_units, races_in_block, accesses, named, placed_in_life, at_home, Online, kept_in_both, HasTakenPlaced, WantsMemory, IsOpening, SpBags, HasApplied, MayGrow, state_of, Procedures, Bool, count_ones, ◌||◌, true, ◌+◌, is_root_return, IsApart, HasFollowedNext, TakesPlaced, HasOnlyAccessed, Wants, in_life, append-nil, races_of_same}
+use Rattle.online.proofs.Common.{◌≡◌, ◌≢◌, ℕ, ◌%◌, ◌^◌, ◌<◌, ◌≤◌, ◌⊎◌, inl, inr, ⊎_elim, arith, cond, nat_eq, false, List, [], ◌∷◌, ◌++◌, append_assoc, map, refl, sym, ◌∙◌, ap, subst, Option, None, Some, Result, Ok, Err, OnOk, OnErr, IsErr, option_to_list, cases_lt, eq-eqb, ne_eqb, map-append, Back, Race, NoMemory, Record, Placed, Kind, RaceAt, Active, Cell, untouched, touched, race_at, Shadow, kept_of, with_cell, State, state_at_start, state_from, state_after, after_record, bags-after_record, found, found_from, state_from-append, found_from-append, found-push, Collection, KeepsBest, races_of, fails, location_of, touched_at, Blocks, kept_in_blocks, block_of, unit_of, first_of, kept_after_units, races_in_block, accesses, named, placed_in_life, at_home, Online, kept_in_both, HasTakenPlaced, WantsMemory, IsOpening, SpBags, HasApplied, MayGrow, state_of, Procedures, ◌+◌, IsApart, HasFollowedNext, TakesPlaced, Wants, in_life, append-nil, races_of_same}
 use Rattle.dag.specs.declared.records.Record.TheVariants as records
 use Rattle.dag.specs.declared.records.Kind.TheVariants as kinds
 use Rattle.shadow.specs.Found as rules

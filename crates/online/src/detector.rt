@@ -191,7 +191,8 @@ impl<S: BuildHasher + Drop> Detector<S> {
             Record::Write(location) if location % 2 == 0 => {
                 self.touch(location, Kind::Write, unit_of(location))
             }
-            _ => self.apply(what),
+            Record::Read(_) | Record::Write(_) => self.apply(what),
+            Record::Spawn | Record::Call | Record::Return | Record::Sync => self.apply(what),
         }
     }
 
