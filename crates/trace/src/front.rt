@@ -71,8 +71,8 @@ fn call_of(version: Option<Version>, piece: &[u8]) -> Option<Front>
     }
 }
 
-// Whether a text of four to seven bytes is at the front. The first four are compared at once, and the others one by one:
-// `==` of slices is a loop.
+// Whether a text of four to seven bytes is at the front. The first four are compared at once, and the others one by
+// one: `==` of slices is a loop.
 #[inline(always)]
 fn begins_with(piece: &[u8], text: &[u8]) -> bool
     requires some { 4 ≤ length text.now }
