@@ -191,6 +191,7 @@ impl<S: BuildHasher + Drop> Detector<S> {
             Record::Write(location) if location % 2 == 0 => {
                 self.touch(location, Kind::Write, unit_of(location))
             }
+            // Apart from the others: an access of a cell takes a tenth less with a copy of the code for itself.
             Record::Read(_) | Record::Write(_) => self.apply(what),
             Record::Spawn | Record::Call | Record::Return | Record::Sync => self.apply(what),
         }
