@@ -36,7 +36,7 @@ static void expect(const char *what, uint8_t wanted, uint8_t status) {
 enum { RECORDS = 5 };
 static const uint8_t kinds[RECORDS] = {SPBAGS_SPAWN, SPBAGS_WRITE, SPBAGS_RETURN, SPBAGS_WRITE, SPBAGS_RETURN};
 
-static void step_by_step(void *session, uint64_t location) {
+static void step_by_step(struct spbags_handle *session, uint64_t location) {
     expect("a kind that no record has", SPBAGS_UNKNOWN_KIND, spbags_step(session, SPBAGS_WRITE + 8, location));
     for (int at = 0; at < RECORDS; at++) {
         expect("a step", SPBAGS_TAKEN, spbags_step(session, kinds[at], location));
@@ -45,7 +45,7 @@ static void step_by_step(void *session, uint64_t location) {
     expect("a step after the end", SPBAGS_AFTER_END, spbags_step(session, SPBAGS_SYNC, 0));
 }
 
-static void all_at_once(void *session, uint64_t location) {
+static void all_at_once(struct spbags_handle *session, uint64_t location) {
     uint64_t records[RECORDS + 1];
     for (int at = 0; at < RECORDS; at++)
         records[at] = spbags_record(kinds[at], location);
@@ -54,7 +54,7 @@ static void all_at_once(void *session, uint64_t location) {
     expect("steps", SPBAGS_AFTER_END, spbags_steps(session, records, RECORDS + 1));
 }
 
-static void in_blocks(void *session, uint64_t location) {
+static void in_blocks(struct spbags_handle *session, uint64_t location) {
     const uint64_t ends = 1 | (uint64_t)1 << 63;
     expect("a spawn", SPBAGS_TAKEN, spbags_step(session, SPBAGS_SPAWN, 0));
     expect("a block of writes", SPBAGS_TAKEN, spbags_block(session, location, 0, ends));
@@ -65,7 +65,7 @@ static void in_blocks(void *session, uint64_t location) {
 }
 
 /* Of three locations one has no other life before the race. */
-static void in_two_lives(void *session, uint64_t location) {
+static void in_two_lives(struct spbags_handle *session, uint64_t location) {
     const uint64_t odd = location + 5, bit_of_odd = 1 << 2;
     expect("a spawn", SPBAGS_TAKEN, spbags_step(session, SPBAGS_SPAWN, 0));
     expect("a write", SPBAGS_TAKEN, spbags_step(session, SPBAGS_WRITE, odd));
@@ -80,17 +80,18 @@ static void in_two_lives(void *session, uint64_t location) {
     expect("another life after the end", SPBAGS_TAKEN, spbags_forget(session, location, UINT64_MAX));
 }
 
-static void print_report(void (*run)(void *session, uint64_t location), uint64_t location) {
-    void *session = aligned_alloc(16, (spbags_room() + 15) / 16 * 16);
-    spbags_new(session);
-    run(session, location);
-    expect("the report", SPBAGS_TAKEN, spbags_report(session));
-    for (uint16_t byte; (byte = spbags_next(session)) < SPBAGS_AT_END;)
+static void print_report(void (*run)(struct spbags_handle *session, uint64_t location), uint64_t location) {
+    struct spbags_handle session;
+    void *room = aligned_alloc(16, (spbags_room() + 15) / 16 * 16);
+    spbags_new(room, &session);
+    run(&session, location);
+    expect("the report", SPBAGS_TAKEN, spbags_report(&session));
+    for (uint16_t byte; (byte = spbags_next(&session)) < SPBAGS_AT_END;)
         putchar(byte);
-    expect("a step after the report", SPBAGS_GIVEN, spbags_step(session, SPBAGS_SYNC, 0));
-    expect("the races of no records", 0, (uint8_t)spbags_race_count(session));
+    expect("a step after the report", SPBAGS_GIVEN, spbags_step(&session, SPBAGS_SYNC, 0));
+    expect("the races of no records", 0, (uint8_t)spbags_race_count(&session));
     spbags_free(session);
-    free(session);
+    free(room);
     if (live_blocks != 0)
         printf("%d blocks aren't given back\n", live_blocks);
 }

@@ -40,6 +40,10 @@ pub record KeepsBest (g : List Back) (c : Collection) : Type 0 where
   pub refused : c.refused ≡ fails g
   pub best_on : (l : ℕ) → race_on l c.races ≡ best l (races_of g)
 
+-- what it was given before, and then these
+abbrev pub KeepsMore : List Back → Collection → Collection → Type 0
+KeepsMore more c d = (g : List Back) → KeepsBest g c → KeepsBest (g ++ more) d
+
 -- The growth for one race of a list was refused: the races before it were taken, nothing else was, and none is kept on
 -- its location.
 pub record IsTakenInPart (races : List RaceAt) (c d : Collection) : Type 0 where
@@ -47,7 +51,7 @@ pub record IsTakenInPart (races : List RaceAt) (c d : Collection) : Type 0 where
   pub refused_at : RaceAt
   pub after : List RaceAt
   pub came : races ≡ before ++ refused_at ∷ after
-  pub took : (g : List Back) → KeepsBest g c → KeepsBest (g ++ map Race before) d
+  pub took : KeepsMore (map Race before) c d
   pub is_first : IsFirstOnLocation d (Race refused_at)
 
 -- Of the races on its location r is the first of those with the least second place: each that came before it has a

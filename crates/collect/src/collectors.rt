@@ -1,8 +1,8 @@
 //! The races of all shards, by location.
-ghost use Rattle.std.specs.Prelude.{◌≡◌, List, [], ◌∷◌, ◌++◌, length, map, true, IsTrue, OnOk, OnErr, IfOk, IsErr};
+ghost use Rattle.std.specs.Prelude.{◌≡◌, List, [], ◌∷◌, length, map, true, IsTrue, OnOk, OnErr, IfOk, IsErr};
 ghost use Rattle.dag.specs.declared.back.Back.{Back};
-ghost use Rattle.collect.specs.Collected.{AreFirstLeast, KeepsBest, IsCollected, IsFirstOnLocation, IsTakenInPart};
-ghost use Rattle.collect.specs.Collected.{fails};
+ghost use Rattle.collect.specs.Collected.{AreFirstLeast, KeepsBest, KeepsMore, IsCollected, IsFirstOnLocation};
+ghost use Rattle.collect.specs.Collected.{IsTakenInPart, fails};
 ghost use Rattle.collect.specs.Keyed.{has_better};
 ghost use Rattle.collect.specs.Reports.{IsReportList};
 
@@ -47,7 +47,7 @@ impl Collector {
 
     /// Takes what a shard handed back. Only a race on a new location needs memory. A refused growth changes nothing.
     pub fn take(&mut self, back: Back) -> Result<(), NoMemory>
-        ensures ok { OnOk result ((g : List Back) → KeepsBest g self.old → KeepsBest (g ++ back ∷ []) self.new) }
+        ensures ok { OnOk result (KeepsMore (back ∷ []) self.old self.new) }
         ensures err { OnErr result (self.new ≡ self.old) }
         ensures cause { OnErr result (IsFirstOnLocation self.old back) }
     {
@@ -86,8 +86,7 @@ impl Collector {
     /// Takes the races of a report, one after another. If the allocator refuses a growth, the collector has the races
     /// before it and lacks the others, so it is no longer the whole.
     pub fn take_report(&mut self, report: &Report) -> Result<(), NoMemory>
-        ensures ok { OnOk result ((g : List Back) → KeepsBest g self.old
-            → KeepsBest (g ++ map Back.Race report.now) self.new) }
+        ensures ok { OnOk result (KeepsMore (map Back.Race report.now) self.old self.new) }
         ensures err { OnErr result (IsTakenInPart report.now self.old self.new) }
     {
         for race in report.races() {
@@ -110,8 +109,7 @@ impl Collector {
     }
 
     fn keep(&mut self, race: Race) -> Result<(), NoMemory>
-        ensures ok { OnOk result ((g : List Back) → KeepsBest g self.old
-            → KeepsBest (g ++ Back.Race race ∷ []) self.new) }
+        ensures ok { OnOk result (KeepsMore (Back.Race race ∷ []) self.old self.new) }
         ensures err { OnErr result (self.new ≡ self.old) }
         ensures cause { OnErr result (IsFirstOnLocation self.old (Back.Race race)) }
     {

@@ -1,5 +1,5 @@
 -- Private: what the workers and the receipts say, lane by lane.
-use Rattle.std.specs.Prelude.{◌≡◌, ℕ, true, List, [], length, map, slice_index_or}
+use Rattle.std.specs.Prelude.{◌≡◌, ℕ, ◌<◌, true, List, [], length, map, slice_index_or}
 use Rattle.dag.specs.declared.records.Placed.{Placed}
 use Rattle.lane.specs.declared.item.Item.{Item}
 use Rattle.lane.specs.declared.taker.Taker.{Taker}
@@ -43,6 +43,10 @@ module _ {S H : Type 0} where
 pub record IsSettled {T : Type 0} (taken put : List (List (Item T))) (k : ℕ) : Type 0 where
   pub prefix : IsBeginning (slice_index_or taken k []) (slice_index_or put k [])
   pub whole : has_mark (slice_index_or taken k []) ≡ true → slice_index_or taken k [] ≡ slice_index_or put k []
+
+-- so it is with the first n lanes
+abbrev pub AreSettled : {T : Type 0} → ℕ → List (List (Item T)) → List (List (Item T)) → Type 0
+AreSettled n taken put = (k : ℕ) → k < n → IsSettled taken put k
 
 -- a taker that took the mark of lane k knows that nothing waits there
 abbrev pub IsEmptied : List (Taker Placed) → ℕ → Type 0

@@ -1,5 +1,5 @@
 -- Private: what a run among its workers has come to.
-use Rattle.std.specs.Prelude.{◌≡◌, ℕ, ◌<◌, List, length, map, None}
+use Rattle.std.specs.Prelude.{◌≡◌, ℕ, ◌<◌, List, length, map, vec_len, None}
 use Rattle.dag.specs.declared.records.Placed.{Placed}
 use Rattle.dag.specs.declared.part.Part.{Part}
 use Rattle.dag.specs.Traces.{placed}
@@ -9,11 +9,13 @@ use Rattle.trace.specs.Endings.{EndsReading, IsWantOfMemoryOrThread}
 use Rattle.lane.specs.Items.{IsBeginning}
 use Rattle.lane.specs.Lanes.{LaneId}
 use Rattle.route.specs.Routers.{lane_count, HasSent}
+use Rattle.dag.specs.declared.records.Limits.{Limits}
 use Rattle.detect.specs.declared.closing.Done.{Done}
+use Rattle.detect.specs.declared.made.Made.{Made}
 use Rattle.detect.specs.Gathered.{given_by}
 use Rattle.detect.specs.LanesBack.{back_lanes, HasBackMark, IsGathered}
 use Rattle.detect.specs.Workers.{AllDid}
-use Rattle.detect.specs.Closing.{taken_by, given_back, taker_lanes, given_lanes, IsSettled}
+use Rattle.detect.specs.Closing.{taken_by, given_back, taker_lanes, given_lanes, AreSettled}
 
 module _ {S H : Type 0} where
   -- the records u were sent and the marks after them; n workers have done their work, and all they gave back came
@@ -38,15 +40,17 @@ module _ {S H : Type 0} where
     pub from_shards : IsBeginning (given_lanes done.workers.items) (back_lanes done.reading.gathering)
 
   -- the receipts were compared: what each of n workers took with what was put on its lane, and what came back on its
-  -- lane
-  -- with what it put there
+  -- lane with what it put there
   pub record IsCompared (n : ℕ) (done : Done S H) : Type 0 where
-    pub to_shards : (k : ℕ) → k < n → IsSettled (taken_by done.workers.items) done.reading.router.puts k
-    pub from_shards : (k : ℕ) → k < n
-        → IsSettled (given_by done.reading.gathering.backs.items) (given_back done.workers.items) k
+    pub to_shards : AreSettled n (taken_by done.workers.items) done.reading.router.puts
+    pub from_shards : AreSettled n (given_by done.reading.gathering.backs.items) (given_back done.workers.items)
 
   -- reading ended well, what the part has of the trace was sent, and all n workers ended; or the fault is why it didn't
   abbrev pub IsDone : Part → ℕ → ℕ → ℕ → Change → Done S H → Type 0
   IsDone part n records depths change done =
       EndsReading IsWantOfMemoryOrThread records depths change
       (λ _ w. IsFinished n done (records_of part (placed w))) done.outcome
+
+  -- what a run was made for is done, within these limits
+  abbrev pub HasRun : Made S H → Limits → Change → Done S H → Type 0
+  HasRun made limits = IsDone made.reading.part (vec_len made.jobs) limits.records limits.depth

@@ -1,5 +1,5 @@
 -- Private: what the shards have handed back, lane by lane, and what a collector holds of it.
-use Rattle.std.specs.Prelude.{◌≡◌, ℕ, ◌+◌, ◌%◌, false, List, [], ◌∷◌, ◌++◌, length, map, slice_index_or, slice_set, ⊤}
+use Rattle.std.specs.Prelude.{◌≡◌, ℕ, ◌+◌, ◌<◌, ◌%◌, false, List, [], ◌∷◌, ◌++◌, length, map, slice_index_or, slice_set, ⊤}
 use Rattle.std.specs.List.{AllByRecursion}
 use Rattle.dag.specs.declared.back.Back.{Back}
 use Rattle.lane.specs.declared.item.Item.{Item}
@@ -33,3 +33,8 @@ AreAtHome lists = AreAtHomeFrom (length lists) 0 lists
 pub record Gathers (lists : List (List (Item Back))) (kept : Collection) : Type 0 where
   pub none_failed : kept.refused ≡ false → fails (all_given lists) ≡ false
   pub holds : kept.refused ≡ false → AreAtHome lists → KeepsBest (all_given lists) kept
+
+-- what was gathered before, and then these items of any lane
+abbrev pub GathersMore : List (Item Back) → Collection → Collection → Type 0
+GathersMore items old new = (lists : List (List (Item Back))) (k : ℕ) → k < length lists
+    → Gathers lists old → Gathers (with_items lists k items) new

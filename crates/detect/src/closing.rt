@@ -1,16 +1,12 @@
 //! The end of a run: its receipts are compared, and it is answered.
-ghost use Rattle.std.specs.Prelude.{◌≡◌, ◌<◌, ◌≤◌, ℕ, IfOk, OnOk, map, vec_len};
-ghost use Rattle.dag.specs.Bounds.{most_records};
-ghost use Rattle.dag.specs.declared.part.Part.{Part};
-ghost use Rattle.trace.specs.Devices.{Change};
-ghost use Rattle.trace.specs.Endings.{EndsReading, IsWantOfMemoryOrThread};
+ghost use Rattle.std.specs.Prelude.{◌≡◌, ◌<◌, ℕ, IfOk, OnOk, map, vec_len};
 ghost use Rattle.lane.specs.Items.{IsBeginning};
 ghost use Rattle.lane.specs.Lanes.{put_of};
 ghost use Rattle.detect.specs.Gathered.{given_by};
 ghost use Rattle.detect.specs.Closing.{taken_by, given_back, counts_of, takers_of, taker_lanes};
-ghost use Rattle.detect.specs.Closing.{given_lanes, IsSameWork, IsSettled, IsEmptied};
-ghost use Rattle.detect.specs.Finished.{IsClosed, IsCompared, IsDone};
-ghost use Rattle.detect.specs.RunFinds.{RunFindsPart};
+ghost use Rattle.detect.specs.Closing.{given_lanes, IsSameWork, AreSettled, IsEmptied};
+ghost use Rattle.detect.specs.Finished.{IsClosed, IsCompared};
+ghost use Rattle.detect.specs.RunFinds.{AnswersRun};
 ghost use Rattle.detect.specs.Rooms.{HasRoom};
 
 use crate::gathering::Gathering;
@@ -47,9 +43,7 @@ pub(crate) fn close<S: BuildHasher + Drop>(done: Done<S>, lists: Lists) -> Resul
     // where a fault is the answer too
     ensures compared { IsCompared (vec_len done.workers) done }
     ensures lanes { IfOk result (λ run. map (λ t. t.lane) run.lanes.items ≡ taker_lanes done.workers.items) }
-    ensures answers { (part : Part) (n records depths : ℕ) (change : Change) → 1 ≤ n → records ≤ most_records
-        → IsDone part n records depths change done
-        → EndsReading IsWantOfMemoryOrThread records depths change (RunFindsPart part n) result }
+    ensures answers { AnswersRun done result }
 {
     // What the takers took is of a run of the lanes, by which it is each shard's share.
     routers();
@@ -100,8 +94,7 @@ fn settle<S: BuildHasher + Drop>(done: Done<S>) -> Settled<S>
 fn settle_shards<S: BuildHasher + Drop>(workers: &mut Vec<Worked<S>>, ends: &mut Vec<End<Placed>>)
     requires { IsBeginning (taker_lanes workers.old.items) (map (λ e. e.lane) ends.old.items) }
     ensures same { IsSameWork workers.old.items workers.new.items }
-    ensures settled { (k : ℕ) → k < vec_len workers.old
-        → IsSettled (taken_by workers.old.items) (map put_of ends.old.items) k }
+    ensures settled { AreSettled (vec_len workers.old) (taken_by workers.old.items) (map put_of ends.old.items) }
     ensures emptied { (k : ℕ) → k < vec_len workers.old → IsEmptied (takers_of workers.new.items) k }
 {
     for shard in 0..workers.len() {
@@ -114,8 +107,7 @@ fn settle_backs<S: BuildHasher + Drop>(workers: &mut Vec<Worked<S>>, backs: &mut
     requires { IsBeginning (given_lanes workers.old.items) (map (λ t. t.lane) backs.old.items) }
     ensures same { IsSameWork workers.old.items workers.new.items }
     ensures takers { takers_of workers.new.items ≡ takers_of workers.old.items }
-    ensures settled { (k : ℕ) → k < vec_len workers.old
-        → IsSettled (given_by backs.old.items) (given_back workers.old.items) k }
+    ensures settled { AreSettled (vec_len workers.old) (given_by backs.old.items) (given_back workers.old.items) }
 {
     for shard in 0..workers.len() {
         backs[shard].settle(&mut workers[shard].back);

@@ -1,12 +1,12 @@
 //! The lanes back from the shards, and the races that came over them.
-ghost use Rattle.std.specs.Prelude.{◌≡◌, ◌<◌, ◌≤◌, ◌++◌, ℕ, ◌∷◌, Err, IfErr, OnOk};
-ghost use Rattle.std.specs.Prelude.{vec_len, length, List, [], IsTrue, IsFalse};
+ghost use Rattle.std.specs.Prelude.{◌≡◌, ◌<◌, ◌≤◌, ℕ, ◌∷◌, Err, IfErr, OnOk};
+ghost use Rattle.std.specs.Prelude.{vec_len, [], IsTrue, IsFalse};
 ghost use Rattle.lane.specs.declared.item.Item.{Item};
 ghost use Rattle.dag.specs.declared.back.Back.{Back};
 ghost use Rattle.dag.specs.declared.back.Back.TheVariants as backs;
 ghost use Rattle.trace.specs.declared.faults.Fault.TheVariants as faults;
-ghost use Rattle.collect.specs.Collected.{KeepsBest};
-ghost use Rattle.detect.specs.Gathered.{Gathers, with_items};
+ghost use Rattle.collect.specs.Collected.{KeepsMore};
+ghost use Rattle.detect.specs.Gathered.{GathersMore};
 ghost use Rattle.detect.specs.LanesBack.{IsFurther, HasBackMark};
 
 use collect::Collector;
@@ -116,8 +116,7 @@ impl Gathering {
     // Gives what a lane gave to the collector.
     fn keep_all(&mut self, items: &[Item<Back>])
         ensures backs { self.new.backs ≡ self.old.backs }
-        ensures gathers { (lists : List (List (Item Back))) (k : ℕ) → k < length lists
-            → Gathers lists self.old.collector → Gathers (with_items lists k items.now) self.new.collector }
+        ensures gathers { GathersMore items.now self.old.collector self.new.collector }
     {
         for item in items {
             self.keep_item(*item);
@@ -126,8 +125,7 @@ impl Gathering {
 
     fn keep_item(&mut self, item: Item<Back>)
         ensures backs { self.new.backs ≡ self.old.backs }
-        ensures gathers { (lists : List (List (Item Back))) (k : ℕ) → k < length lists
-            → Gathers lists self.old.collector → Gathers (with_items lists k (item ∷ [])) self.new.collector }
+        ensures gathers { GathersMore (item ∷ []) self.old.collector self.new.collector }
     {
         match item {
             Item::One(back) => self.keep(back),
@@ -139,7 +137,7 @@ impl Gathering {
     fn keep(&mut self, back: Back)
         ensures backs { self.new.backs ≡ self.old.backs }
         ensures given { IsFalse self.new.collector.refused → IsFalse self.old.collector.refused
-            × ((g : List Back) → KeepsBest g self.old.collector → KeepsBest (g ++ back ∷ []) self.new.collector) }
+            × KeepsMore (back ∷ []) self.old.collector self.new.collector }
         ensures refused { back ≡ backs.NoMemory → IsTrue self.new.collector.refused }
     {
         match back {

@@ -7,7 +7,7 @@ ghost use Rattle.lane.specs.Items.{IsBeginning};
 ghost use Rattle.detect.specs.Closing.{taker_lanes};
 ghost use Rattle.detect.specs.Workers.{to_shards};
 ghost use Rattle.detect.specs.Readiness.{IsReady};
-ghost use Rattle.detect.specs.Finished.{IsClosed, IsDone};
+ghost use Rattle.detect.specs.Finished.{IsClosed, HasRun};
 ghost use Rattle.detect.specs.RunReports.{RunAnswers, RunAnswersPart};
 
 use crate::closing::{Done, close};
@@ -76,8 +76,7 @@ where
     // Otherwise no memory was left, no thread could start, or the fault is the first. If the source holds such a
     // trace and doesn't fail, it is one of the former two.
     ensures ends { EndsReading IsWantOfMemoryOrThread plan.limits.records plan.limits.depth
-        (R.state source.old ⇝ R.state source.new)
-        (RunAnswers plan.shards) result }
+        (R.state source.old ⇝ R.state source.new) (RunAnswers plan.shards) result }
     ensures capacity { IfOk result (λ run. All (λ lane. lane.capacity ≡ plan.capacity) run.lanes.items) }
 {
     detect_part(rt, alloc, plan, Part::whole(), source, gate, hashers)
@@ -106,8 +105,7 @@ where
     // As `detect`, but that the report is what the part has of the verdict, and that each shard took its share of what
     // the part has of the trace.
     ensures ends { EndsReading IsWantOfMemoryOrThread plan.limits.records plan.limits.depth
-        (R.state source.old ⇝ R.state source.new)
-        (RunAnswersPart part plan.shards) result }
+        (R.state source.old ⇝ R.state source.new) (RunAnswersPart part plan.shards) result }
     ensures capacity { IfOk result (λ run. All (λ lane. lane.capacity ≡ plan.capacity) run.lanes.items) }
 {
     let lists = make_lists(alloc, hashers.len())?;
@@ -117,8 +115,7 @@ where
         rt,
         move |scope| -> (Done<S>, &mut R)
             requires { IsReady (vec_len made.jobs) made }
-            ensures done { IsDone made.reading.part (vec_len made.jobs) plan.limits.records plan.limits.depth
-                (R.state source.entry.now ⇝ R.state result.1.now) result.0 }
+            ensures done { HasRun made plan.limits (R.state source.entry.now ⇝ R.state result.1.now) result.0 }
             ensures closed { IsClosed result.0 }
             ensures lanes { IsBeginning (taker_lanes result.0.workers.items) (to_shards made.jobs.items) }
             ensures source { result.1.ghost_name ≡ source.entry.ghost_name }
@@ -155,8 +152,7 @@ fn run_workers<
 where
     S::Hasher: Send,
     requires { IsReady (vec_len made.jobs) made }
-    ensures done { IsDone made.reading.part (vec_len made.jobs) limits.records limits.depth
-        (R.state source.old ⇝ R.state source.new) result }
+    ensures done { HasRun made limits (R.state source.old ⇝ R.state source.new) result }
     ensures closed { IsClosed result }
     ensures lanes { IsBeginning (taker_lanes result.workers.items) (to_shards made.jobs.items) }
     ensures unread { result.outcome ≡ Err NoThread → source.new ≡ source.old }

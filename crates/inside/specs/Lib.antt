@@ -1,3 +1,5 @@
+pub mod Handles
+pub mod Lending
 pub mod Naming
 pub mod Sessions
 pub mod Statuses

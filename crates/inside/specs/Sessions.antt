@@ -1,10 +1,6 @@
--- Promised: what lies at a handle, and what a session has taken or gives.
+-- Promised: what a session has taken or gives.
 use Rattle.std.specs.Prelude.{◌≡◌, ◌≢◌, ℕ, ◌+◌, ◌<◌, ◌≤◌, ◌/◌, ◌%◌, ◌↔◌, ◌⊎◌, List, [], ◌∷◌, ◌++◌, length, map}
 use Rattle.std.specs.Prelude.{slice_index_or}
-use base.Fraction.{full_share}
-use base.Fml.{Fml, ftrue, fsep, fex}
-use denote.RattleType.{RattleType}
-use denote.RawPtr.{Ptr, lies_at}
 use Rattle.std.specs.Int.RustNames.{count_ones}
 use Rattle.dag.specs.Accesses.{RaceAt}
 use Rattle.dag.specs.Bounds.{most_records}
@@ -22,10 +18,6 @@ use Rattle.online.specs.Lives.{IsRaceCount}
 use Rattle.online.specs.Online.{IsAfter, MayWant}
 use Rattle.inside.specs.declared.session.Session.{Session}
 use Rattle.inside.specs.declared.session.Session.TheVariants.{Taking, Giving, Stopped}
-
--- what lies at p has the property P
-abbrev pub held : (R : RattleType) → Ptr → (R.Denot → Type 0) → Fml
-held R p P = fex R.Denot (λ d. fsep (lies_at R full_share p d) (fex (P d) (λ _. ftrue)))
 
 -- what step and report answer
 abbrev pub taken : ℕ

@@ -3,6 +3,7 @@
 #![tactic(auto)]
 
 mod exports;
+mod handle;
 mod session;
 #[cfg(test)]
 mod tests;

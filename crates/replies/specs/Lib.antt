@@ -1,4 +1,5 @@
 pub mod Answered
+pub mod Clauses
 pub mod Files
 pub mod Inputs
 pub mod Merges

@@ -1,5 +1,5 @@
 //! The answers of the program: what goes to standard output and to standard error, and the exit status.
-ghost use Rattle.std.specs.Prelude.{◌≡◌, ◌<◌, ◌↔◌, ℕ, [], List, IfSome, IfNone, IfOk, MatchResult, vec_len};
+ghost use Rattle.std.specs.Prelude.{◌≡◌, ℕ, [], List, IfSome, IfNone, IfOk, MatchResult, vec_len};
 ghost use Rattle.std.specs.Prelude.{OnOk};
 ghost use Rattle.trace.specs.Devices.{Device, ◌⇝◌, HasPassedOn};
 ghost use Rattle.trace.specs.Writers.{IsUntouched, TookFront, WasGiven, Puts};
@@ -12,6 +12,7 @@ ghost use Rattle.words.specs.Refusals.{help_of, refusal};
 ghost use Rattle.replies.specs.Questions.{Answers, AnswersCheckOf, IsWant};
 ghost use Rattle.dag.specs.Bounds.{most_records};
 ghost use Rattle.replies.specs.Answered.{IsAnswered};
+ghost use Rattle.replies.specs.Clauses.{SaysWhether};
 
 use crate::questions::{answer_explain, answer_measure, answer_pairs};
 use collect::write_report;
@@ -112,8 +113,7 @@ pub fn limits_of(depth: u32) -> Limits
 
 // The exit status of the races found: 0 if there is none.
 pub(crate) fn status_of_found<X>(found: &[X]) -> u8
-    ensures low { result < 2 }
-    ensures zero { (result ≡ 0) ↔ (found.now ≡ []) }
+    ensures { SaysWhether result (found.now ≡ []) }
 {
     if found.is_empty() { 0 } else { 1 }
 }

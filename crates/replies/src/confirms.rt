@@ -1,10 +1,10 @@
 //! The answer to `confirm`.
 ghost use Rattle.std.specs.Prelude.{◌≡◌};
 ghost use Rattle.trace.specs.Devices.{◌⇝◌};
-ghost use Rattle.trace.specs.Endings.{IsWantOfMemory};
 ghost use Rattle.replies.specs.Questions.{AnswersConfirm, status_of};
 ghost use Rattle.dag.specs.Bounds.{most_records};
-ghost use Rattle.replies.specs.Answered.{IsAnswered, IsConfirmed};
+ghost use Rattle.replies.specs.Answered.{IsConfirmed};
+ghost use Rattle.replies.specs.Clauses.{AnswersAlone};
 
 use crate::answers::{finish, limits_of, no_answer};
 use audit::{Confirm, confirm};
@@ -46,9 +46,8 @@ fn answer_entries<R: Source, W: Sink, E: Sink>(
     out: &mut W,
     err: &mut E,
 ) -> u8
-    ensures { IsAnswered IsWantOfMemory most_records depth (AnswersConfirm entries.now)
-        (R.state trace.old ⇝ R.state trace.new) (W.state out.old ⇝ W.state out.new)
-        (E.state err.old ⇝ E.state err.new) result }
+    ensures { AnswersAlone depth (AnswersConfirm entries.now) (R.state trace.old ⇝ R.state trace.new)
+        (W.state out.old ⇝ W.state out.new) (E.state err.old ⇝ E.state err.new) result }
 {
     match confirm(alloc, limits_of(depth), trace, entries) {
         Ok(answer) => {

@@ -63,10 +63,9 @@ where
     O: Fn(&str) -> io::Result<F>,
     requires callable { O.IsAlwaysCallable opener.now }
     requires empty { KeepsBest [] collector.old }
-    ensures { MatchResult result
-        (λ _. HaveTaken (FnReturnsAt O.Fn opener.now) (known_bytes F.remaining) names.now collector.new)
-        (λ refused. IsFirstRefused (FnReturnsAt O.Fn opener.now) (known_bytes F.remaining) names.now
-        refused.number refused.refusal) }
+    ensures { MatchResult result (λ _. HaveTaken (FnReturnsAt O.Fn opener.now) (known_bytes F.remaining)
+        names.now collector.new) (λ refused. IsFirstRefused (FnReturnsAt O.Fn opener.now) (known_bytes F.remaining)
+        names.now refused.number refused.refusal) }
 {
     let mut number = 0;
     for name in names {
@@ -89,9 +88,8 @@ where
     F: Read + Drop,
     O: Fn(&str) -> io::Result<F>,
     requires { O.IsAlwaysCallable opener.now }
-    ensures { MatchResult result
-        (λ _. HasTakenReport (FnReturnsAt O.Fn opener.now) (known_bytes F.remaining) name.now
-        collector.old collector.new)
+    ensures { MatchResult result (λ _. HasTakenReport (FnReturnsAt O.Fn opener.now) (known_bytes F.remaining)
+        name.now collector.old collector.new)
         (IsRefusedReport (FnReturnsAt O.Fn opener.now) (known_bytes F.remaining) name.now) }
 {
     let Some(input) = Input::open(rt, name, opener) else {

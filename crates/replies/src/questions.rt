@@ -1,10 +1,8 @@
 //! The answers to `pairs`, `explain` and `measure`.
-ghost use Rattle.std.specs.Prelude.{◌≡◌, ◌<◌, ◌↔◌, None};
+ghost use Rattle.std.specs.Prelude.{◌≡◌, None};
 ghost use Rattle.trace.specs.Devices.{◌⇝◌};
-ghost use Rattle.trace.specs.Endings.{IsWantOfMemory};
 ghost use Rattle.replies.specs.Questions.{AnswersPairs, AnswersExplain, AnswersMeasure};
-ghost use Rattle.dag.specs.Bounds.{most_records};
-ghost use Rattle.replies.specs.Answered.{IsAnswered};
+ghost use Rattle.replies.specs.Clauses.{AnswersAlone, SaysWhether};
 
 use crate::answers::{finish, limits_of, no_answer, status_of_found};
 use audit::{Explained, explain, measure, pairs};
@@ -21,9 +19,8 @@ pub(crate) fn answer_pairs<R: Source, W: Sink, E: Sink>(
     out: &mut W,
     err: &mut E,
 ) -> u8
-    ensures { IsAnswered IsWantOfMemory most_records depth (AnswersPairs location)
-        (R.state trace.old ⇝ R.state trace.new) (W.state out.old ⇝ W.state out.new)
-        (E.state err.old ⇝ E.state err.new) result }
+    ensures { AnswersAlone depth (AnswersPairs location) (R.state trace.old ⇝ R.state trace.new)
+        (W.state out.old ⇝ W.state out.new) (E.state err.old ⇝ E.state err.new) result }
 {
     match pairs(alloc, limits_of(depth), trace, location) {
         Ok(pairs) => {
@@ -44,9 +41,8 @@ pub(crate) fn answer_explain<R: Source, W: Sink, E: Sink>(
     out: &mut W,
     err: &mut E,
 ) -> u8
-    ensures { IsAnswered IsWantOfMemory most_records depth (AnswersExplain location)
-        (R.state trace.old ⇝ R.state trace.new) (W.state out.old ⇝ W.state out.new)
-        (E.state err.old ⇝ E.state err.new) result }
+    ensures { AnswersAlone depth (AnswersExplain location) (R.state trace.old ⇝ R.state trace.new)
+        (W.state out.old ⇝ W.state out.new) (E.state err.old ⇝ E.state err.new) result }
 {
     match explain(alloc, limits_of(depth), trace, location) {
         Ok(answer) => {
@@ -59,8 +55,7 @@ pub(crate) fn answer_explain<R: Source, W: Sink, E: Sink>(
 
 // The exit status of an explanation: 0 if the location has no race.
 fn status_of_explained(answer: &Option<Explained>) -> u8
-    ensures low { result < 2 }
-    ensures zero { (result ≡ 0) ↔ (answer.now ≡ None) }
+    ensures { SaysWhether result (answer.now ≡ None) }
 {
     match answer {
         None => 0,
@@ -76,9 +71,8 @@ pub(crate) fn answer_measure<R: Source, W: Sink, E: Sink>(
     out: &mut W,
     err: &mut E,
 ) -> u8
-    ensures { IsAnswered IsWantOfMemory most_records depth AnswersMeasure
-        (R.state trace.old ⇝ R.state trace.new) (W.state out.old ⇝ W.state out.new)
-        (E.state err.old ⇝ E.state err.new) result }
+    ensures { AnswersAlone depth AnswersMeasure (R.state trace.old ⇝ R.state trace.new)
+        (W.state out.old ⇝ W.state out.new) (E.state err.old ⇝ E.state err.new) result }
 {
     match measure(alloc, limits_of(depth), trace) {
         Ok(numbers) => {

@@ -208,8 +208,7 @@ fn name_of(alloc: Global, found: &ArgMatches<'_>, argument: &str) -> Result<Stri
 
 // The name of a file that a word gives. An empty name is no name.
 fn named(alloc: Global, word: &str) -> Result<String, WordsFault>
-    ensures name { IfOk result IsName }
-    ensures word { IfOk result (λ name. string_bytes name ≡ word.now) }
+    ensures { IfOk result (λ name. IsName name × (string_bytes name ≡ word.now)) }
 {
     if word.is_empty() {
         return Err(WordsFault::Bad);

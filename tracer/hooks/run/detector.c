@@ -25,13 +25,14 @@ static struct bundle {
 static struct bundle *filling;
 static sem_t full_bundles, free_bundles;
 static pthread_t detector;
+static void *session_room;
 /* What the detector's thread has at hand: its session; how many spawns and accesses it has taken; and blocks of the
    stack's numbers, each at the remainder of its own, of which these granules have ended. To forget a few of a block
    takes nearly as long as to forget all. So they wait until another block has the place, which is never wrong: they
    don't come again. The program's thread writes to no line of the cache that has these. */
 enum { TWO_LINES = 128, ENDED_BLOCKS = 8 };
 static struct {
-    void *session;
+    struct spbags_handle session;
     uint64_t spawns, accesses;
     struct ended_block {
         uint64_t block, granules;
@@ -111,7 +112,7 @@ static uint64_t granules_of_ending(uint64_t ending) {
 }
 
 static void forget(uint64_t location, uint64_t granules) {
-    uint8_t status = spbags_forget(at_hand.session, location, granules);
+    uint8_t status = spbags_forget(&at_hand.session, location, granules);
     if (status != SPBAGS_TAKEN)
         refuse_step(status);
 }
@@ -141,7 +142,7 @@ static uint64_t *take_sites(uint64_t *sites) {
 
 /* A block's accesses; the next record. */
 COUNTS_BITS static uint64_t *take_block(uint64_t *record) {
-    uint8_t status = spbags_block(at_hand.session, *record >> 3, record[1], record[2]);
+    uint8_t status = spbags_block(&at_hand.session, *record >> 3, record[1], record[2]);
     at_hand.accesses += (uint64_t)(__builtin_popcountll(record[1]) + __builtin_popcountll(record[2]));
     if (status != SPBAGS_TAKEN)
         refuse_step(status);
@@ -162,7 +163,7 @@ static uint64_t *take_records(uint64_t *first, const uint64_t *last) {
     at_hand.accesses += records.accesses;
     if (doing.plain && doing.keeping_places)
         places_take(first, records.all);
-    uint8_t status = spbags_steps(at_hand.session, first, records.all);
+    uint8_t status = spbags_steps(&at_hand.session, first, records.all);
     if (status != SPBAGS_TAKEN)
         refuse_step(status);
     return first + records.all;
@@ -193,13 +194,13 @@ static size_t races_count;
 
 /* The program's thread waits meanwhile. */
 static void put_report(void) {
-    races_count = spbags_race_count(at_hand.session);
+    races_count = spbags_race_count(&at_hand.session);
     detector_has_races = races_count > 0;
-    uint8_t status = spbags_report(at_hand.session);
+    uint8_t status = spbags_report(&at_hand.session);
     if (status != SPBAGS_TAKEN)
         refuse_step(status);
     size_t lines = 0;
-    for (unsigned byte; (byte = spbags_next(at_hand.session)) < SPBAGS_AT_END; lines += byte == '\n')
+    for (unsigned byte; (byte = spbags_next(&at_hand.session)) < SPBAGS_AT_END; lines += byte == '\n')
         if (report_is_asked || lines <= MOST_SHOWN) {
             *output_room(&output_of_run) = (char)byte;
             output_of_run.used++;
@@ -234,12 +235,12 @@ static void show_progress(void) {
     struct shown_progress *page = __atomic_load_n(&progress, __ATOMIC_ACQUIRE);
     page->spawns = at_hand.spawns;
     page->accesses = at_hand.accesses;
-    page->races = spbags_race_count(at_hand.session);
+    page->races = spbags_race_count(&at_hand.session);
 }
 
 static void *detect(void *nothing) {
     bool is_last = false;
-    spbags_new(at_hand.session);
+    spbags_new(session_room, &at_hand.session);
     for (size_t number = 0; !is_last; number = (number + 1) % DETECTOR_BUNDLES) {
         wait_for(&full_bundles);
         take_bundle(&bundles[number]);
@@ -289,7 +290,7 @@ void detector_begin(void) {
     if (places_name)
         places_open(places_name);
     detector_heap_begin();
-    at_hand.session = memory_reserve(spbags_room());
+    session_room = memory_reserve(spbags_room());
     start_thread();
     doing.detecting = true;
 }

@@ -7,8 +7,8 @@ pub returns-in-Ok : goal.returns-in-Ok
 returns-in-Ok g c =
     let found = c.as_slice-found.result.now in
     let status = c.status_of_found.result in
-    let low = c.status_of_found.ensures.low in
-    let zero = c.status_of_found.ensures.zero in
+    let low = c.status_of_found.ensures.0 in
+    let zero = c.status_of_found.ensures.1 in
     let run = says_so _ _ c.limits_of.ensures.records c.limits_of.ensures.depth
     (λ w is.
     let Q : List (Access × Access) → Type 0 = ArePairs w c.args.location in
