@@ -1,5 +1,6 @@
 -- Private: what the shards have handed back, lane by lane, and what a collector holds of it.
-use Rattle.std.specs.Prelude.{◌≡◌, ℕ, ◌+◌, ◌<◌, ◌%◌, false, List, [], ◌∷◌, ◌++◌, length, map, slice_index_or, slice_set, ⊤}
+use Rattle.std.specs.Prelude.{◌≡◌, ℕ, ◌+◌, ◌<◌, ◌%◌, false, List, [], ◌∷◌, ◌++◌, length, map}
+use Rattle.std.specs.Prelude.{slice_index_or, slice_set, ⊤}
 use Rattle.std.specs.List.{AllByRecursion}
 use Rattle.dag.specs.declared.back.Back.{Back}
 use Rattle.lane.specs.declared.item.Item.{Item}
