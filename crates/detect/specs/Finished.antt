@@ -51,6 +51,6 @@ module _ {S H : Type 0} where
       EndsReading IsWantOfMemoryOrThread records depths change
       (λ _ w. IsFinished n done (records_of part (placed w))) done.outcome
 
-  -- what a run was made for is done, within these limits
+  -- that, with the part and as many workers as the run was made with, within these limits
   abbrev pub HasRun : Made S H → Limits → Change → Done S H → Type 0
   HasRun made limits = IsDone made.reading.part (vec_len made.jobs) limits.records limits.depth

@@ -6,7 +6,7 @@ use Rattle.trace.specs.Devices.{Change}
 use Rattle.trace.specs.Endings.{IsWantOfMemory}
 use Rattle.replies.specs.Answered.{IsAnswered}
 
--- a trace of at most this nesting was answered without a thread of its own
+-- how a question of a trace ends for which no thread is started, so that memory alone may be wanting
 abbrev pub AnswersAlone : ℕ → (List Record → List ℕ → ℕ → Type 0) → Change → Change → Change → ℕ → Type 0
 AnswersAlone = IsAnswered IsWantOfMemory most_records
 
